@@ -1,0 +1,13 @@
+-- `quintic_hermite` is `quinticAt`, operation by operation.
+use borrow.Author.Needs.{needs}
+use Rattle.quintic.specs.Quintic.{quinticAt}
+use Rattle.quintic.proofs.quintic_hermite.Statement.{statement}
+use Rattle.quintic.proofs.quintic_hermite.Tie as tie
+
+returns : tie.Need-returns
+unfolding quinticAt
+returns c = simp (c .velocity-on .ensures, c .before .position-on .ensures, c .before .before .curve-of .ensures)
+
+pub quintic-hermite-spec : {M : Type 1} → statement M
+quintic-hermite-spec =
+    tie.close (tie.spec (λ c κs. search needs) (λ c κs. search needs) (λ c κs. search needs) returns)

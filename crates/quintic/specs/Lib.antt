@@ -1,0 +1,2 @@
+pub mod Quintic
+pub mod Starred

@@ -1,0 +1,51 @@
+-- 01: "RK4: half steps use h·0.5; the sixth is the double nearest 1/6; r + (((k1 + k2·2) + k3·2) + k4)·(h·sixth), likewise v with l.
+-- Question times t, t+h·0.5 twice, t+h." The inner values, which 01 leaves to the module: k1 = v, k2 = v + l1·(h·0.5), k3 = v + l2·(h·0.5),
+-- k4 = v + l3·h are the velocities asked; the positions asked are r, r + k1·(h·0.5), r + k2·(h·0.5), r + k3·h.
+use mathlib.Core.Bool.{false}
+use lib.IntN.{pos, negsuc}
+use lib.Ieee.{Float, fin, binary64, add, mul, div}
+use Rattle.triple.specs.declared.Triple.{Triple}
+use Rattle.triple.specs.declared.Point.{Point}
+use Rattle.triple.specs.Arithmetic.{plus, times}
+use Rattle.rk4.specs.declared.End.{End}
+
+-- h·0.5
+abbrev pub half : Float → Float
+half h = mul binary64 h (fin false 1 (negsuc 0))
+
+abbrev pub two : Float
+two = fin false 1 (pos 1)
+
+-- 1 / 6, rounded to the nearest double
+unfoldable pub sixth : Float
+sixth = div binary64 (fin false 1 (pos 0)) (fin false 3 (pos 1))
+
+-- k2, by l1, and k3, by l2
+unfoldable pub midway : Point → Float → Triple → Triple
+midway p h l = plus (p .v) (times l (half h))
+
+-- k4, by l3
+unfoldable pub across : Point → Float → Triple → Triple
+across p h l = plus (p .v) (times l h)
+
+-- (((a + b·2) + c·2) + d)·(h·sixth)
+unfoldable pub average : Float → Triple → Triple → Triple → Triple → Triple
+average h a b c d = times (plus (plus (plus a (times b two)) (times c two)) d) (mul binary64 h sixth)
+
+-- ---- the questions after the first, which is p itself
+unfoldable pub second : Point → Float → Triple → Point
+second p h l1 = record { t = add binary64 (p .t) (half h); r = plus (p .r) (times (p .v) (half h)); v = midway p h l1 }
+
+unfoldable pub third : Point → Float → Triple → Triple → Point
+third p h l1 l2 = record { t = add binary64 (p .t) (half h); r = plus (p .r) (times (midway p h l1) (half h)); v = midway p h l2 }
+
+unfoldable pub fourth : Point → Float → Triple → Triple → Point
+fourth p h l2 l3 = record { t = add binary64 (p .t) h; r = plus (p .r) (times (midway p h l2) h); v = across p h l3 }
+
+-- ---- the end
+unfoldable pub ending : Point → Float → Triple → Triple → Triple → Triple → End
+ending p h l1 l2 l3 l4 =
+    record {
+      r = plus (p .r) (average h (p .v) (midway p h l1) (midway p h l2) (across p h l3));
+      v = plus (p .v) (average h l1 l2 l3 l4);
+    }

@@ -1,0 +1,115 @@
+// Triples of f64, and the two records that are made of them: all by value, every function total.
+// Operations go component by component, each product and each sum rounded once (01, "What is carried over").
+ghost use mathlib.Core.Path.{_≡_};
+ghost use Rattle.triple.specs.Arithmetic.{zeros, plus, minus, times, over};
+ghost use Rattle.triple.specs.Size.{absolute, larger, sizeOf};
+
+pub struct Triple {
+    pub x: f64,
+    pub y: f64,
+    pub z: f64,
+}
+
+// Where a question is asked: a time, a position and a velocity.
+pub struct Point {
+    pub t: f64,
+    pub r: Triple,
+    pub v: Triple,
+}
+
+// What is stored of a step: its point, and the acceleration there.
+pub struct Sample {
+    pub t: f64,
+    pub r: Triple,
+    pub v: Triple,
+    pub a: Triple,
+}
+
+impl Triple {
+    // What every sum starts from.
+    pub fn zero() -> Triple
+        ensures { λ r. ⌜ r ≡ zeros ⌝ }
+    {
+        Triple {
+            x: 0.0,
+            y: 0.0,
+            z: 0.0,
+        }
+    }
+
+    pub fn plus(self, other: Triple) -> Triple
+        ensures { λ r. ⌜ r ≡ plus self other ⌝ }
+    {
+        Triple {
+            x: self.x + other.x,
+            y: self.y + other.y,
+            z: self.z + other.z,
+        }
+    }
+
+    pub fn minus(self, other: Triple) -> Triple
+        ensures { λ r. ⌜ r ≡ minus self other ⌝ }
+    {
+        Triple {
+            x: self.x - other.x,
+            y: self.y - other.y,
+            z: self.z - other.z,
+        }
+    }
+
+    pub fn times(self, k: f64) -> Triple
+        ensures { λ r. ⌜ r ≡ times self k ⌝ }
+    {
+        Triple {
+            x: self.x * k,
+            y: self.y * k,
+            z: self.z * k,
+        }
+    }
+
+    // A true division: a product by 1 / k would round twice.
+    pub fn over(self, k: f64) -> Triple
+        ensures { λ r. ⌜ r ≡ over self k ⌝ }
+    {
+        Triple {
+            x: self.x / k,
+            y: self.y / k,
+            z: self.z / k,
+        }
+    }
+
+    // NaN if a component is NaN, else the largest absolute value.
+    pub fn size(self) -> f64
+        ensures { λ r. ⌜ r ≡ sizeOf self ⌝ }
+    {
+        let x = self.x;
+        let y = self.y;
+        let z = self.z;
+        if x != x {
+            return x;
+        }
+        if y != y {
+            return y;
+        }
+        if z != z {
+            return z;
+        }
+        larger_of(larger_of(abs(x), abs(y)), abs(z))
+    }
+}
+
+// The absolute value; of -0.0 it is 0.0, as in the Rust.
+pub fn abs(x: f64) -> f64
+    ensures { λ r. ⌜ r ≡ absolute x ⌝ }
+{
+    if x == 0.0 {
+        return 0.0;
+    }
+    if x < 0.0 { -x } else { x }
+}
+
+fn larger_of(a: f64, b: f64) -> f64
+    ensures { λ r. ⌜ r ≡ larger a b ⌝ }
+{
+    if a < b { b } else { a }
+}
