@@ -1,0 +1,37 @@
+//! The judge that nobody here wrote: the Rust module itself, run on cases and printing what it asked and answered.
+//!
+//!   oracle run              cases on standard input, transcripts on standard output
+//!   oracle examples         01's "Examples at the edges", each beside what the module does
+//!   oracle list             the stored list of cases
+//!   oracle cases SEED N     N random cases
+mod cases;
+mod examples;
+mod force;
+mod random;
+mod transcript;
+
+include!(concat!(env!("OUT_DIR"), "/module.rs"));
+
+use std::io::{self, BufWriter, Write};
+
+fn main() -> io::Result<()> {
+    let words: Vec<String> = std::env::args().skip(1).collect();
+    let words: Vec<&str> = words.iter().map(String::as_str).collect();
+    let mut out = BufWriter::new(io::stdout().lock());
+    match words[..] {
+        ["run"] => transcript::run(io::stdin().lock(), &mut out)?,
+        ["examples"] => examples::print(&mut out)?,
+        ["list"] => cases::list(&mut out)?,
+        ["cases", seed, count] => {
+            let number = |w: &str| w.parse().unwrap_or_else(|_| usage());
+            cases::random(number(seed), number(count), &mut out)?
+        }
+        _ => usage(),
+    }
+    out.flush()
+}
+
+fn usage() -> ! {
+    eprintln!("usage: oracle run | examples | list | cases SEED N");
+    std::process::exit(2)
+}

@@ -1,0 +1,250 @@
+//! Cases in, transcripts out: the format that `crates/replay` speaks too.
+use crate::force::{Force, Source, NAMES, V3};
+use crate::gauss_jackson::{GJDenseOutput, GJSettings, GaussJackson8};
+use numeris::ode::OdeError;
+use std::io::{self, BufRead, Write};
+
+pub type Samples = GJDenseOutput<f64, 3>;
+
+#[derive(Clone, Debug)]
+pub struct Case {
+    pub name: String,
+    pub t0: f64,
+    pub tf: f64,
+    pub h: f64,
+    pub max_corrector: usize,
+    pub corrector_tol: f64,
+    pub max_startup: usize,
+    pub startup_tol: f64,
+    pub max_steps: usize,
+    pub samples: bool,
+    pub r0: [f64; 3],
+    pub v0: [f64; 3],
+    pub force: Force,
+    pub p: [f64; 4],
+}
+
+/// Sixteen hex digits of the bits; every NaN is `nan`.
+pub fn hex(x: f64) -> String {
+    if x.is_nan() {
+        "nan".to_string()
+    } else {
+        format!("{:016x}", x.to_bits())
+    }
+}
+
+/// 01's number of a refusal.
+pub fn number(e: OdeError) -> u8 {
+    match e {
+        OdeError::StepNotFinite => 1,
+        OdeError::MaxStepsExceeded => 2,
+        OdeError::NoDenseOutput => 3,
+        OdeError::InterpOutOfBounds => 4,
+    }
+}
+
+fn floats(xs: &[f64]) -> String {
+    xs.iter().map(|x| format!(" {}", hex(*x))).collect()
+}
+
+fn three(v: &V3) -> [f64; 3] {
+    [v[0], v[1], v[2]]
+}
+
+fn read_float(word: &str) -> Option<f64> {
+    let shaped = word.len() == 16 && word.bytes().all(|b| b.is_ascii_hexdigit());
+    shaped.then(|| f64::from_bits(u64::from_str_radix(word, 16).unwrap()))
+}
+
+/// At most ten decimal digits.
+fn read_count(word: &str) -> Option<usize> {
+    let shaped = (1..=10).contains(&word.len()) && word.bytes().all(|b| b.is_ascii_digit());
+    shaped.then(|| word.parse().unwrap())
+}
+
+impl Case {
+    /// The words after `case`.
+    pub fn read(words: &[&str]) -> Option<Case> {
+        if words.len() != 21 {
+            return None;
+        }
+        let f = |i: usize| read_float(words[i]);
+        let n = |i: usize| read_count(words[i]);
+        let triple = |i: usize| Some([f(i)?, f(i + 1)?, f(i + 2)?]);
+        Some(Case {
+            name: words[0].to_string(),
+            t0: f(1)?,
+            tf: f(2)?,
+            h: f(3)?,
+            max_corrector: n(4)?,
+            corrector_tol: f(5)?,
+            max_startup: n(6)?,
+            startup_tol: f(7)?,
+            max_steps: n(8)?,
+            samples: match words[9] {
+                "0" => false,
+                "1" => true,
+                _ => return None,
+            },
+            r0: triple(10)?,
+            v0: triple(13)?,
+            force: NAMES.iter().find(|(name, _)| *name == words[16])?.1,
+            p: [f(17)?, f(18)?, f(19)?, f(20)?],
+        })
+    }
+
+    pub fn line(&self) -> String {
+        let bits = |xs: &[f64]| xs.iter().map(|x| format!(" {:016x}", x.to_bits())).collect::<String>();
+        let force = NAMES.iter().find(|(_, f)| *f as u8 == self.force as u8).unwrap().0;
+        format!(
+            "case {}{} {}{} {}{} {} {}{}{} {}{}",
+            self.name,
+            bits(&[self.t0, self.tf, self.h]),
+            self.max_corrector,
+            bits(&[self.corrector_tol]),
+            self.max_startup,
+            bits(&[self.startup_tol]),
+            self.max_steps,
+            self.samples as u8,
+            bits(&self.r0),
+            bits(&self.v0),
+            force,
+            bits(&self.p)
+        )
+    }
+
+    pub fn settings(&self) -> GJSettings<f64> {
+        GJSettings {
+            h: self.h,
+            max_corrector_iters: self.max_corrector,
+            corrector_tol: self.corrector_tol,
+            max_startup_iters: self.max_startup,
+            startup_tol: self.startup_tol,
+            max_steps: self.max_steps,
+            dense_output: self.samples,
+        }
+    }
+
+    /// Runs the module, prints the transcript, and hands back the samples of a finished run.
+    fn play(&self, out: &mut impl Write) -> io::Result<Option<Samples>> {
+        writeln!(out, "case {}", self.name)?;
+        let mut source = Source::new(self.force, self.p);
+        let mut asked = 0u16;
+        let mut failed = Ok(());
+        let r0 = V3::from_array(self.r0);
+        let v0 = V3::from_array(self.v0);
+        let force = |t: f64, r: &V3, v: &V3| {
+            let line = format!("ask {} {}{}{}", asked, hex(t), floats(&three(r)), floats(&three(v)));
+            if failed.is_ok() {
+                failed = writeln!(out, "{line}");
+            }
+            asked = asked.wrapping_add(1);
+            source.answer(t, r, v)
+        };
+        let solution = GaussJackson8::integrate(self.t0, self.tf, &r0, &v0, force, &self.settings());
+        failed?;
+        match solution {
+            Err(e) => {
+                writeln!(out, "refused {}", number(e))?;
+                Ok(None)
+            }
+            Ok(s) => {
+                if let Some(d) = &s.dense {
+                    for n in 0..d.t.len() {
+                        let (r, v, a) = (three(&d.r[n]), three(&d.v[n]), three(&d.a[n]));
+                        writeln!(out, "sample {n} {}{}{}{}", hex(d.t[n]), floats(&r), floats(&v), floats(&a))?;
+                    }
+                }
+                let (r, v) = (three(&s.r), three(&s.v));
+                writeln!(out, "done {}{}{} {} {} {}", hex(s.t), floats(&r), floats(&v), s.evals, s.steps, s.startup_iters)?;
+                Ok(s.dense)
+            }
+        }
+    }
+}
+
+fn empty() -> Samples {
+    GJDenseOutput { t: vec![], r: vec![], v: vec![], a: vec![] }
+}
+
+/// The words after `table`: a name, then ten floats a sample.
+fn read_table(words: &[&str]) -> Option<(String, Samples)> {
+    let (name, rest) = words.split_first()?;
+    let xs: Vec<f64> = rest.iter().map(|w| read_float(w)).collect::<Option<_>>()?;
+    let mut d = empty();
+    if xs.len() % 10 != 0 {
+        return None;
+    }
+    for s in xs.chunks(10) {
+        d.t.push(s[0]);
+        d.r.push(V3::from_array([s[1], s[2], s[3]]));
+        d.v.push(V3::from_array([s[4], s[5], s[6]]));
+        d.a.push(V3::from_array([s[7], s[8], s[9]]));
+    }
+    Some((name.to_string(), d))
+}
+
+fn between(out: &mut impl Write, got: Result<Vec<(V3, V3)>, OdeError>) -> io::Result<()> {
+    match got {
+        Err(e) => writeln!(out, "refused {}", number(e)),
+        Ok(all) => {
+            for (r, v) in all {
+                writeln!(out, "interp{}{}", floats(&three(&r)), floats(&three(&v)))?;
+            }
+            Ok(())
+        }
+    }
+}
+
+/// One line; false where it has no such shape.
+fn take(words: &[&str], samples: &mut Samples, out: &mut impl Write) -> io::Result<bool> {
+    let Some((kind, rest)) = words.split_first() else {
+        return Ok(true);
+    };
+    let times: Option<Vec<f64>> = rest.iter().map(|w| read_float(w)).collect();
+    match (*kind, times) {
+        ("case", _) => match Case::read(rest) {
+            Some(case) => *samples = case.play(out)?.unwrap_or_else(empty),
+            None => return Ok(false),
+        },
+        ("table", _) => match read_table(rest) {
+            Some((name, table)) => {
+                *samples = table;
+                writeln!(out, "table {name}")?;
+            }
+            None => return Ok(false),
+        },
+        ("at", Some(t)) if t.len() == 1 => between(out, GaussJackson8::interpolate(t[0], samples).map(|x| vec![x]))?,
+        ("batch", Some(ts)) => between(out, GaussJackson8::interpolate_batch(&ts, samples))?,
+        _ => return Ok(false),
+    }
+    Ok(true)
+}
+
+/// The longest line that is read; a longer one is misshapen.
+const LONGEST: usize = 32 * 1024;
+
+/// A line's words, or nothing where it is too long or not printable ASCII.
+fn words_of(line: &[u8]) -> Option<Vec<&str>> {
+    let printable = line.len() <= LONGEST && line.iter().all(|b| (b' '..=b'~').contains(b));
+    let text = std::str::from_utf8(line).ok().filter(|_| printable)?;
+    Some(text.split(' ').filter(|w| !w.is_empty()).collect())
+}
+
+pub fn run(input: impl BufRead, out: &mut impl Write) -> io::Result<()> {
+    let mut samples = empty();
+    for (at, line) in input.split(b'\n').enumerate() {
+        let line = line?;
+        if line.first() == Some(&b'#') {
+            continue;
+        }
+        let shaped = match words_of(&line) {
+            Some(words) => take(&words, &mut samples, out)?,
+            None => false,
+        };
+        if !shaped {
+            writeln!(out, "bad line {}", at + 1)?;
+        }
+    }
+    Ok(())
+}
