@@ -6,8 +6,8 @@ use lib.IntN.{pos, negsuc}
 use lib.Ieee.{Float, fin, binary64, add, mul, div}
 use Rattle.triple.specs.declared.Triple.{Triple}
 use Rattle.triple.specs.declared.Point.{Point}
+use Rattle.triple.specs.declared.State.{State}
 use Rattle.triple.specs.Arithmetic.{plus, times}
-use Rattle.rk4.specs.declared.End.{End}
 
 -- h·0.5
 abbrev pub half : Float → Float
@@ -43,7 +43,7 @@ unfoldable pub fourth : Point → Float → Triple → Triple → Point
 fourth p h l2 l3 = record { t = add binary64 (p .t) h; r = plus (p .r) (times (midway p h l2) h); v = across p h l3 }
 
 -- ---- the end
-unfoldable pub ending : Point → Float → Triple → Triple → Triple → Triple → End
+unfoldable pub ending : Point → Float → Triple → Triple → Triple → Triple → State
 ending p h l1 l2 l3 l4 =
     record {
       r = plus (p .r) (average h (p .v) (midway p h l1) (midway p h l2) (across p h l3));

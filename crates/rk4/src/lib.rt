@@ -2,18 +2,13 @@
 // l1, l2, .. got so far, and where the step ends. The first question is the point itself.
 // The order of rounding is 01's ("RK4: half steps use h·0.5; ..") and, within a stage, the module's rk4_step.
 use triple::Point;
+use triple::State;
 use triple::Triple;
 ghost use mathlib.Core.Path.{_≡_};
 ghost use Rattle.rk4.specs.Rk4.{midway, across, average, second, third, fourth, ending};
 
 // 1 / 6, rounded; the step is never divided by six.
 const SIXTH: f64 = 0.16666666666666666;
-
-// Where a step ends; the time there is its caller's affair.
-pub struct End {
-    pub r: Triple,
-    pub v: Triple,
-}
 
 // The second question, once l1 is known.
 pub fn second_question(p: Point, h: f64, l1: Triple) -> Point
@@ -52,8 +47,8 @@ pub fn fourth_question(p: Point, h: f64, l2: Triple, l3: Triple) -> Point
     Point { t: p.t + h, r, v }
 }
 
-// The end of the step, once all four are known.
-pub fn end_of_step(p: Point, h: f64, l1: Triple, l2: Triple, l3: Triple, l4: Triple) -> End
+// Where the step ends, once all four are known; the time there is the caller's affair.
+pub fn end_of_step(p: Point, h: f64, l1: Triple, l2: Triple, l3: Triple, l4: Triple) -> State
     ensures { λ e. ⌜ e ≡ ending p h l1 l2 l3 l4 ⌝ }
 {
     let k2 = half_on(p, h, l1);
@@ -61,7 +56,7 @@ pub fn end_of_step(p: Point, h: f64, l1: Triple, l2: Triple, l3: Triple, l4: Tri
     let k4 = step_on(p, h, l3);
     let r = p.r.plus(averaged(h, p.v, k2, k3, k4));
     let v = p.v.plus(averaged(h, l1, l2, l3, l4));
-    End { r, v }
+    State { r, v }
 }
 
 // The velocity half a step on, by the acceleration l.

@@ -8,6 +8,7 @@ absolute nan = nan
 absolute (inf s) = inf false
 absolute (fin s m e) = fin false m e
 
+-- a, unless b is greater
 unfoldable pub larger : Float → Float → Float
 larger a b = cond (lt a b) b a
 

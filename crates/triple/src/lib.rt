@@ -1,13 +1,21 @@
-// Triples of f64, and the two records that are made of them: all by value, every function total.
+// Triples of f64, and the three records that are made of them: all by value, every function total.
 // Operations go component by component, each product and each sum rounded once (01, "What is carried over").
 ghost use mathlib.Core.Path.{_≡_};
 ghost use Rattle.triple.specs.Arithmetic.{zeros, plus, minus, times, over};
 ghost use Rattle.triple.specs.Size.{absolute, larger, sizeOf};
 
+pub mod nine;
+
 pub struct Triple {
     pub x: f64,
     pub y: f64,
     pub z: f64,
+}
+
+// A position and a velocity, at a time that is known otherwise.
+pub struct State {
+    pub r: Triple,
+    pub v: Triple,
 }
 
 // Where a question is asked: a time, a position and a velocity.
@@ -108,7 +116,8 @@ pub fn abs(x: f64) -> f64
     if x < 0.0 { -x } else { x }
 }
 
-fn larger_of(a: f64, b: f64) -> f64
+// a, unless b is greater: a NaN in b is passed over.
+pub fn larger_of(a: f64, b: f64) -> f64
     ensures { λ r. ⌜ r ≡ larger a b ⌝ }
 {
     if a < b { b } else { a }
