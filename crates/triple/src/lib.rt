@@ -1,4 +1,4 @@
-// Triples of f64, and the three records that are made of them: all by value, every function total.
+// Triples of f64, and the three records that are made of them: all by value, laid out as C has them; every function is total.
 // Operations go component by component, each product and each sum rounded once (01, "What is carried over").
 ghost use mathlib.Core.Path.{_≡_};
 ghost use Rattle.triple.specs.Arithmetic.{zeros, plus, minus, times, over};
@@ -6,6 +6,7 @@ ghost use Rattle.triple.specs.Size.{absolute, larger, sizeOf};
 
 pub mod nine;
 
+#[repr(C)]
 pub struct Triple {
     pub x: f64,
     pub y: f64,
@@ -13,12 +14,14 @@ pub struct Triple {
 }
 
 // A position and a velocity, at a time that is known otherwise.
+#[repr(C)]
 pub struct State {
     pub r: Triple,
     pub v: Triple,
 }
 
 // Where a question is asked: a time, a position and a velocity.
+#[repr(C)]
 pub struct Point {
     pub t: f64,
     pub r: Triple,
@@ -26,6 +29,7 @@ pub struct Point {
 }
 
 // What is stored of a step: its point, and the acceleration there.
+#[repr(C)]
 pub struct Sample {
     pub t: f64,
     pub r: Triple,

@@ -1,0 +1,12 @@
+-- `passes::is_settled` is `settled`.
+use mathlib.Core.Path.{refl}
+use Rattle.startup.specs.Passes.{settled}
+use Rattle.startup.proofs.passes.is_settled.Statement.{statement}
+use Rattle.startup.proofs.passes.is_settled.Tie as tie
+
+returns : tie.Need-returns
+unfolding settled
+returns c = refl
+
+pub is-settled-spec : {M : Type 1} → statement M
+is-settled-spec = tie.close (tie.spec returns)
