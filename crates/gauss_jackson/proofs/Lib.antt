@@ -1,0 +1,3 @@
+pub mod Decoding
+pub mod Counts
+pub mod Sampling

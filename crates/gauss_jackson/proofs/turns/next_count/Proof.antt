@@ -1,0 +1,12 @@
+-- `turns::next_count` is `counted`.
+use borrow.Author.Needs.{needs}
+use Rattle.gauss_jackson.specs.Answers.{counted}
+use Rattle.gauss_jackson.proofs.turns.next_count.Statement.{statement}
+use Rattle.gauss_jackson.proofs.turns.next_count.Tie as tie
+
+returns : tie.Need-returns
+unfolding counted
+returns c = simp (c .before .wrapping-add-u16 .ensures)
+
+pub next-count-spec : {M : Type 1} → statement M
+next-count-spec = tie.close (tie.spec (λ c κs. search needs) (λ c. search needs) returns)

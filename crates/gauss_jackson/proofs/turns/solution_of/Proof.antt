@@ -1,0 +1,12 @@
+-- `turns::solution_of` is `solution`.
+use mathlib.Core.Path.{refl}
+use Rattle.gauss_jackson.specs.Answers.{solution}
+use Rattle.gauss_jackson.proofs.turns.solution_of.Statement.{statement}
+use Rattle.gauss_jackson.proofs.turns.solution_of.Tie as tie
+
+returns : tie.Need-returns
+unfolding solution
+returns c = refl
+
+pub solution-of-spec : {M : Type 1} → statement M
+solution-of-spec = tie.close (tie.spec returns)

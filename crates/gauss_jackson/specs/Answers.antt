@@ -1,0 +1,208 @@
+-- What one call does: `started` and `answered` are what the contracts of `start` and `answer` cite. c counts the answers up to this one.
+use Prim.Native.Nat.{ℕ, _+_, _-_, _%_}
+use mathlib.Core.Bool.{Bool, false, cond}
+use mathlib.Core.List.{List, [], _∷_}
+use lib.Dec.{eqb, ltb}
+use lib.ListN.{length}
+use lib.Ieee.{Float}
+use Rattle.triple.specs.declared.Triple.{Triple}
+use Rattle.triple.specs.declared.State.{State}
+use Rattle.triple.specs.declared.Sample.{Sample}
+use Rattle.triple.specs.Arithmetic.{nought, zeros}
+use Rattle.refusals.specs.declared.Refusal.{Refusal}
+use Rattle.refusals.specs.declared.Refusal.the-variants.{StepNotFinite, MaxStepsExceeded, Setting, SampleRoom, NoQuestion, NotThatQuestion}
+use Rattle.sums.specs.Sums.{correctedState}
+use Rattle.startup.specs.Passes.{settled}
+use Rattle.gauss_jackson.specs.declared.Settings.{Settings}
+use Rattle.gauss_jackson.specs.declared.Plan.{Plan}
+use Rattle.gauss_jackson.specs.declared.Count.{Count}
+use Rattle.gauss_jackson.specs.declared.Body.{Body}
+use Rattle.gauss_jackson.specs.declared.Run.{Run}
+use Rattle.gauss_jackson.specs.declared.Question.{Question}
+use Rattle.gauss_jackson.specs.declared.Solution.{Solution}
+use Rattle.gauss_jackson.specs.declared.Answered.{Answered}
+use Rattle.gauss_jackson.specs.declared.Outcome.{Outcome}
+use Rattle.gauss_jackson.specs.declared.Outcome.the-variants.{Ask, Done, Refused}
+use Rattle.gauss_jackson.specs.declared.waiting.Stage.{Stage}
+use Rattle.gauss_jackson.specs.declared.waiting.Stage.the-variants.{First, Second, Third, Fourth}
+use Rattle.gauss_jackson.specs.declared.waiting.Waiting.{Waiting}
+use Rattle.gauss_jackson.specs.declared.waiting.Waiting.the-variants.{Epoch, Forward, Backward, Survey, Pass, Step, Tail, TailSample, Ended, Unknown}
+use Rattle.gauss_jackson.specs.Plan.{withinLimits, planOf, tooNear}
+use Rattle.gauss_jackson.specs.Formulas.{goesOn, isShort, rests}
+use Rattle.gauss_jackson.specs.Waiting.{markOf, waitingOf}
+use Rattle.gauss_jackson.specs.Questions.{question}
+use Rattle.gauss_jackson.specs.Moves.{freshBody, surveyed, kept, movedOn, movedBack, passBegun, renewed, passMade, launched, predicted, tried, committed, tailEnd}
+use Rattle.gauss_jackson.specs.Samples.{fits, putAll, startupSamples, stepSample, lastSample}
+use Rattle.gauss_jackson.specs.Counting.{soundOf}
+
+-- "Numbers start at 0 and rise by one for each accepted answer; after 65,535 the next question is numbered 0."
+unfoldable pub counted : Count → Count
+counted c = record { number = (c .number + 1) % 65536; evals = c .evals + 1 }
+
+-- ---- the run is ended: every ended run is the same, and holds nothing
+unfoldable pub noPlan : Plan
+noPlan =
+    record {
+      settings =
+          record {
+            h = nought;
+            «corrector_tol» = nought;
+            «startup_tol» = nought;
+            «max_corrector_iters» = 0;
+            «max_startup_iters» = 0;
+            «max_steps» = 0;
+            samples = false;
+          };
+      t0 = nought;
+      tf = nought;
+      h = nought;
+    }
+
+unfoldable pub endedRun : Run
+endedRun = record { mark = markOf Ended (record { number = 0; evals = 0 }); body = freshBody noPlan zeros zeros }
+
+unfoldable pub ending : Outcome → Answered
+ending o = record { run = endedRun; outcome = o }
+
+-- ---- a question is open
+unfoldable pub asks : Waiting → Count → Body → Outcome
+asks w c b = let q = question w b in Ask (record { number = c .number; t = q .t; r = q .r; v = q .v })
+
+unfoldable pub asking : Waiting → Count → Body → Answered
+asking w c b = record { run = record { mark = markOf w c; body = b }; outcome = asks w c b }
+
+-- ---- the finished state
+unfoldable pub solution : Float → State → Count → ℕ → Body → Outcome
+solution t x c n b = Done (record { t = t; r = x .r; v = x .v; evals = c .evals; steps = n; «startup_iters» = b .«startup_iters» })
+
+-- the head of the loop: "While (tf - t)·dir > 0: test max_steps; [..] If abs(rem) - abs(h) < -1e-12·abs(h): RK4 over rem [..] Else: predict"
+unfoldable pub onward : Count → Body → Answered
+onward c b =
+    cond (goesOn (b .plan) (b .track .t))
+    (cond (ltb (b .track .steps) (b .plan .settings .«max_steps»))
+    (cond (isShort (b .plan) (b .track .t)) (asking (Tail First) c b) (asking (Step 0) c (predicted b)))
+    (ending (Refused MaxStepsExceeded)))
+    (ending (solution (b .track .t) (b .track .state) c (b .track .steps) b))
+
+-- ---- the answer, and the buffer at exit
+pub record Turn : Type 0 where
+  pub got : Answered
+  pub out : List Float
+
+abbrev pub quiet : Answered → List Float → Turn
+quiet x out = record { got = x; out = out }
+
+-- samples from number n on are due, if wanted, and then x follows: all or none, refusal 6 before all else
+unfoldable pub sampling : ℕ → List Sample → Body → List Float → Answered → Turn
+sampling n ss b out x =
+    cond (b .plan .settings .samples)
+    (cond (fits n (length ss) out) (record { got = x; out = putAll n ss out }) (quiet (ending (Refused SampleRoom)) out))
+    (quiet x out)
+
+-- the startup is done
+unfoldable pub startupEnded : Count → Body → List Float → Turn
+startupEnded c b out = sampling 0 (startupSamples (launched b)) (launched b) out (onward c (launched b))
+
+-- a step is made
+unfoldable pub stepEnded : Count → Body → List Float → Turn
+stepEnded c b out = sampling (b .track .steps) (stepSample b ∷ []) b out (onward c b)
+
+-- the head of the startup passes, and the end of one
+unfoldable pub passesOn : Count → Body → List Float → Turn
+passesOn c b out =
+    cond (ltb (b .«startup_iters») (b .plan .settings .«max_startup_iters»))
+    (quiet (asking (Pass 0) c (passBegun b)) out)
+    (startupEnded c b out)
+
+unfoldable pub passEnded : Count → Body → List Float → Turn
+passEnded c b out =
+    cond (settled (b .plan .settings .«startup_tol») (b .widest))
+    (startupEnded c (passMade b) out)
+    (passesOn c (passMade b) out)
+
+-- ---- an answer at each waiting point
+-- after point 3 comes point 5
+unfoldable pub nextPoint : ℕ → ℕ
+nextPoint i = cond (eqb i 3) 5 (i + 1)
+
+unfoldable pub forwardTaken : ℕ → Stage → Count → Body → Triple → Answered
+forwardTaken i First c b x = asking (Forward i Second) c (kept First b x)
+forwardTaken i Second c b x = asking (Forward i Third) c (kept Second b x)
+forwardTaken i Third c b x = asking (Forward i Fourth) c (kept Third b x)
+forwardTaken i Fourth c b x = cond (ltb i 7) (asking (Forward (i + 1) First) c (movedOn i b x)) (asking (Backward 4 First) c (movedOn i b x))
+
+unfoldable pub backwardTaken : ℕ → Stage → Count → Body → Triple → Answered
+backwardTaken i First c b x = asking (Backward i Second) c (kept First b x)
+backwardTaken i Second c b x = asking (Backward i Third) c (kept Second b x)
+backwardTaken i Third c b x = asking (Backward i Fourth) c (kept Third b x)
+backwardTaken i Fourth c b x = cond (ltb 1 i) (asking (Backward (i - 1) First) c (movedBack i b x)) (asking (Survey 0) c (movedBack i b x))
+
+unfoldable pub surveyTaken : ℕ → Count → Body → Triple → List Float → Turn
+surveyTaken i c b x out =
+    cond (ltb i 8) (quiet (asking (Survey (nextPoint i)) c (surveyed i b x)) out) (passesOn c (surveyed i b x) out)
+
+unfoldable pub passTaken : ℕ → Count → Body → Triple → List Float → Turn
+passTaken i c b x out = cond (ltb i 8) (quiet (asking (Pass (nextPoint i)) c (renewed i b x)) out) (passEnded c (renewed i b x) out)
+
+-- after n corrector passes. "A stop keeps the acceleration from before the last correction. No passes keep the prediction."
+unfoldable pub stepTaken : ℕ → Count → Body → Triple → List Float → Turn
+stepTaken n c b x out =
+    let y = correctedState (b .plan .h) (b .track .sums) (b .trial .fixed) x in
+    cond (ltb n (b .plan .settings .«max_corrector_iters»))
+    (cond (rests (b .plan .settings .«corrector_tol») (b .trial .state) y)
+    (stepEnded c (committed b y x) out)
+    (quiet (asking (Step (n + 1)) c (tried b y)) out))
+    (stepEnded c (committed b (b .trial .state) x) out)
+
+-- "with samples one more question at tf, end at tf with one more step"
+unfoldable pub tailTaken : Stage → Count → Body → Triple → Answered
+tailTaken First c b x = asking (Tail Second) c (kept First b x)
+tailTaken Second c b x = asking (Tail Third) c (kept Second b x)
+tailTaken Third c b x = asking (Tail Fourth) c (kept Third b x)
+tailTaken Fourth c b x =
+    cond (b .plan .settings .samples)
+    (asking TailSample c (tried b (tailEnd b x)))
+    (ending (solution (b .plan .tf) (tailEnd b x) c (b .track .steps + 1) b))
+
+unfoldable pub lastTaken : Count → Body → Triple → List Float → Turn
+lastTaken c b x out =
+    sampling (b .track .steps + 1) (lastSample b x ∷ []) b out
+    (ending (solution (b .plan .tf) (b .trial .state) c (b .track .steps + 1) b))
+
+unfoldable pub answeredAt : Waiting → Count → Body → Triple → List Float → Turn
+answeredAt Epoch c b x out = quiet (asking (Forward 4 First) c (surveyed 4 b x)) out
+answeredAt (Forward i s) c b x out = quiet (forwardTaken i s c b x) out
+answeredAt (Backward i s) c b x out = quiet (backwardTaken i s c b x) out
+answeredAt (Survey i) c b x out = surveyTaken i c b x out
+answeredAt (Pass i) c b x out = passTaken i c b x out
+answeredAt (Step n) c b x out = stepTaken n c b x out
+answeredAt (Tail s) c b x out = quiet (tailTaken s c b x) out
+answeredAt TailSample c b x out = lastTaken c b x out
+answeredAt Ended c b x out = quiet (ending (Refused NoQuestion)) out
+answeredAt Unknown c b x out = quiet (ending (Refused NoQuestion)) out
+
+-- after 7 and 8 all is unchanged
+unfoldable pub refusing : Run → Refusal → Answered
+refusing run e = record { run = run; outcome = Refused e }
+
+-- "At an answer 7, 8, then 6 wherever samples are due (end of startup, commit, tail), before 2."
+unfoldable pub answered : Run → ℕ → Triple → List Float → Turn
+answered run n x out =
+    cond (soundOf run)
+    (cond (eqb (run .mark .count .number) n)
+    (answeredAt (waitingOf (run .mark)) (counted (run .mark .count)) (run .body) x out)
+    (quiet (refusing run NotThatQuestion) out))
+    (quiet (refusing run NoQuestion) out)
+
+-- "Order: at start 5, 1."
+unfoldable pub started : Settings → Float → Float → Triple → Triple → Answered
+started s t0 tf r0 v0 =
+    cond (withinLimits s)
+    (cond (tooNear (planOf s t0 tf))
+    (ending (Refused StepNotFinite))
+    (asking Epoch (record { number = 0; evals = 0 }) (freshBody (planOf s t0 tf) r0 v0)))
+    (ending (Refused Setting))
+
+-- the open question, told again
+unfoldable pub openQuestion : Run → Outcome
+openQuestion run = cond (soundOf run) (asks (waitingOf (run .mark)) (run .mark .count) (run .body)) (Refused NoQuestion)

@@ -1,0 +1,45 @@
+// Cases on standard input, transcripts on standard output, in the oracle's format: every question, sample, state, count and
+// refusal of the proved library. Reads and writes in pieces; a misshapen line is answered `bad line N`, and the reading goes on.
+mod case;
+mod force;
+mod line;
+mod play;
+mod text;
+mod words;
+
+// The longest line; room for 2,001 samples, ten numbers each.
+const LONGEST: usize = 32768;
+
+const ROOM: usize = 20010;
+
+// What is kept from line to line: the line's number from 1, how much of it is read (past LONGEST it is too long), and how many
+// numbers of samples the last case left.
+pub struct Place {
+    pub number: u64,
+    pub length: usize,
+    pub held: usize,
+}
+
+fn main() {
+    let mut line = [0u8; LONGEST];
+    let mut samples = [0.0f64; ROOM];
+    let mut place = Place {
+        number: 1,
+        length: 0,
+        held: 0,
+    };
+    let mut turns: u64 = 0;
+    let mut going = true;
+    while going && turns < 0x1000_0000_0000 {
+        let mut piece = io::buffer();
+        let got = libc::read(0, &mut piece);
+        let n = io::count(got, &piece);
+        if n == 0 {
+            going = false;
+        } else {
+            place = line::take(&piece[..n], place, &mut line, &mut samples);
+        }
+        turns += 1;
+    }
+    line::finish(place, &line, &mut samples);
+}

@@ -1,0 +1,72 @@
+// A case, played: every question answered by its force, until the run is done or refused.
+use crate::case::Case;
+use crate::force;
+use crate::force::Force;
+use crate::text;
+use gauss_jackson::Answered;
+use gauss_jackson::Outcome;
+use gauss_jackson::Question;
+
+pub struct Playing {
+    pub now: Answered,
+    pub force: Force,
+}
+
+// One question: told, and answered.
+fn play_on(q: Question, playing: Playing, samples: &mut [f64]) -> Playing {
+    text::print_ask(q);
+    let told = force::answer(playing.force, q.t, q.r, q.v);
+    let now = gauss_jackson::answer(playing.now.run, q.number, told.a, samples);
+    let force = told.force;
+    Playing { now, force }
+}
+
+// How many numbers a finished run has stored: ten a sample, one sample a step and one more.
+fn stored(case: Case, steps: u64, samples: &[f64]) -> usize {
+    if !case.settings.samples {
+        return 0;
+    }
+    if steps < (samples.len() / 10) as u64 {
+        return (steps as usize) * 10 + 10;
+    }
+    0
+}
+
+fn print_samples(held: usize, samples: &[f64]) {
+    let mut n = 0usize;
+    while n < held / 10 {
+        let at = n * 10;
+        if at + 10 <= samples.len() {
+            text::print_sample(n, &samples[at..at + 10]);
+        }
+        n += 1;
+    }
+}
+
+// Plays a case, and says how many numbers of samples it leaves.
+pub fn play(case: Case, samples: &mut [f64]) -> usize {
+    let now = gauss_jackson::start(case.settings, case.t0, case.tf, case.r0, case.v0);
+    let force = case.force;
+    let mut playing = Playing { now, force };
+    let mut turns: u64 = 0;
+    while turns < 0x1000_0000_0000 {
+        let outcome = playing.now.outcome;
+        match outcome {
+            Outcome::Ask(q) => {
+                playing = play_on(q, playing, samples);
+            }
+            Outcome::Done(s) => {
+                let held = stored(case, s.steps, samples);
+                print_samples(held, samples);
+                text::print_done(s);
+                return held;
+            }
+            Outcome::Refused(e) => {
+                text::print_refused(refusals::number_of(e) as u64);
+                return 0;
+            }
+        }
+        turns += 1;
+    }
+    0
+}
