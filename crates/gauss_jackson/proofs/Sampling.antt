@@ -8,10 +8,10 @@ use lib.Ieee.{Float}
 use borrow.Author.Tests.{not-true, not-false}
 use Rattle.triple.specs.declared.Sample.{Sample}
 use Rattle.refusals.specs.declared.Refusal.the-variants.{SampleRoom}
-use Rattle.gauss_jackson.specs.declared.Body.{Body}
+use Rattle.run.specs.declared.Body.{Body}
 use Rattle.gauss_jackson.specs.declared.Answered.{Answered}
 use Rattle.gauss_jackson.specs.declared.Outcome.the-variants.{Refused}
-use Rattle.gauss_jackson.specs.Samples.{fits, putAll}
+use Rattle.run.specs.Samples.{fits, putAll}
 use Rattle.gauss_jackson.specs.Answers.{Turn, quiet, ending, sampling}
 
 module _ {A : Type 0} where

@@ -13,27 +13,27 @@ use Rattle.refusals.specs.declared.Refusal.{Refusal}
 use Rattle.refusals.specs.declared.Refusal.the-variants.{StepNotFinite, MaxStepsExceeded, Setting, SampleRoom, NoQuestion, NotThatQuestion}
 use Rattle.sums.specs.Sums.{correctedState}
 use Rattle.startup.specs.Passes.{settled}
-use Rattle.gauss_jackson.specs.declared.Settings.{Settings}
-use Rattle.gauss_jackson.specs.declared.Plan.{Plan}
-use Rattle.gauss_jackson.specs.declared.Count.{Count}
-use Rattle.gauss_jackson.specs.declared.Body.{Body}
-use Rattle.gauss_jackson.specs.declared.Run.{Run}
+use Rattle.run.specs.declared.Settings.{Settings}
+use Rattle.run.specs.declared.Plan.{Plan}
+use Rattle.run.specs.declared.Count.{Count}
+use Rattle.run.specs.declared.Body.{Body}
+use Rattle.run.specs.declared.Run.{Run}
 use Rattle.gauss_jackson.specs.declared.Question.{Question}
 use Rattle.gauss_jackson.specs.declared.Solution.{Solution}
 use Rattle.gauss_jackson.specs.declared.Answered.{Answered}
 use Rattle.gauss_jackson.specs.declared.Outcome.{Outcome}
 use Rattle.gauss_jackson.specs.declared.Outcome.the-variants.{Ask, Done, Refused}
-use Rattle.gauss_jackson.specs.declared.waiting.Stage.{Stage}
-use Rattle.gauss_jackson.specs.declared.waiting.Stage.the-variants.{First, Second, Third, Fourth}
-use Rattle.gauss_jackson.specs.declared.waiting.Waiting.{Waiting}
-use Rattle.gauss_jackson.specs.declared.waiting.Waiting.the-variants.{Epoch, Forward, Backward, Survey, Pass, Step, Tail, TailSample, Ended, Unknown}
-use Rattle.gauss_jackson.specs.Plan.{withinLimits, planOf, tooNear}
-use Rattle.gauss_jackson.specs.Formulas.{goesOn, isShort, rests}
-use Rattle.gauss_jackson.specs.Waiting.{markOf, waitingOf}
-use Rattle.gauss_jackson.specs.Questions.{question}
-use Rattle.gauss_jackson.specs.Moves.{freshBody, surveyed, kept, movedOn, movedBack, passBegun, renewed, passMade, launched, predicted, tried, committed, tailEnd}
-use Rattle.gauss_jackson.specs.Samples.{fits, putAll, startupSamples, stepSample, lastSample}
-use Rattle.gauss_jackson.specs.Counting.{soundOf}
+use Rattle.run.specs.declared.waiting.Stage.{Stage}
+use Rattle.run.specs.declared.waiting.Stage.the-variants.{First, Second, Third, Fourth}
+use Rattle.run.specs.declared.waiting.Waiting.{Waiting}
+use Rattle.run.specs.declared.waiting.Waiting.the-variants.{Epoch, Forward, Backward, Survey, Pass, Step, Tail, TailSample, Ended, Unknown}
+use Rattle.run.specs.Plan.{withinLimits, planOf, tooNear}
+use Rattle.run.specs.Formulas.{goesOn, isShort, rests}
+use Rattle.run.specs.Waiting.{markOf, waitingOf}
+use Rattle.run.specs.Questions.{question}
+use Rattle.run.specs.Moves.{freshBody, surveyed, kept, movedOn, movedBack, passBegun, renewed, passMade, launched, predicted, tried, committed, tailEnd}
+use Rattle.run.specs.Samples.{fits, putAll, startupSamples, stepSample, lastSample}
+use Rattle.run.specs.Counting.{soundOf}
 
 -- "Numbers start at 0 and rise by one for each accepted answer; after 65,535 the next question is numbered 0."
 unfoldable pub counted : Count → Count

@@ -5,7 +5,7 @@ use borrow.Author.Needs.{needs}
 use borrow.Author.Tests.{not-true, not-false, eq-eqb, ne-eqb}
 use Rattle.gauss_jackson.specs.Answers.{refusing, answered}
 use Rattle.gauss_jackson.proofs.answer.Statement.{statement}
-use Rattle.gauss_jackson.proofs.Counts.{evals-small, ready}
+use Rattle.run.proofs.Counts.{evals-small, ready}
 use Rattle.gauss_jackson.proofs.answer.Tie as tie
 
 returns : tie.Need-returns

@@ -2,7 +2,7 @@
 use mathlib.Core.Path.{sym, _∙_}
 use borrow.Author.Needs.{needs}
 use borrow.Author.Tests.{not-true, not-false, leb-true}
-use Rattle.gauss_jackson.specs.Samples.{fits, startupSamples}
+use Rattle.run.specs.Samples.{fits, startupSamples}
 use Rattle.gauss_jackson.specs.Answers.{startupEnded}
 use Rattle.gauss_jackson.proofs.turns.end_startup.Statement.{statement}
 use Rattle.gauss_jackson.proofs.Sampling.{unwanted, no-room, stored}

@@ -1,9 +1,9 @@
 -- `take` is `answeredAt`, a waiting point each.
 use mathlib.Core.Path.{refl, subst}
 use borrow.Author.Needs.{needs}
-use Rattle.gauss_jackson.specs.Counting.{Ready}
+use Rattle.run.specs.Counting.{Ready}
 use Rattle.gauss_jackson.specs.Answers.{answeredAt}
-use Rattle.gauss_jackson.specs.declared.waiting.Waiting.{Waiting}
+use Rattle.run.specs.declared.waiting.Waiting.{Waiting}
 use Rattle.gauss_jackson.proofs.turns.take.Statement.{statement}
 use Rattle.gauss_jackson.proofs.turns.take.Tie as tie
 

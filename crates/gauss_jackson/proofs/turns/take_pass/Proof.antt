@@ -2,7 +2,7 @@
 use mathlib.Core.Path.{refl}
 use borrow.Author.Needs.{needs}
 use borrow.Author.Tests.{lt-ltb, le-ltb}
-use Rattle.gauss_jackson.specs.Moves.{renewed}
+use Rattle.run.specs.Moves.{renewed}
 use Rattle.gauss_jackson.specs.Answers.{passTaken}
 use Rattle.gauss_jackson.proofs.turns.take_pass.Statement.{statement}
 use Rattle.gauss_jackson.proofs.turns.take_pass.Tie as tie

@@ -3,7 +3,7 @@ use mathlib.Core.Path.{refl, sym, _∙_}
 use native.Mathlib.Omega.{arith}
 use borrow.Author.Needs.{needs}
 use borrow.Author.Tests.{lt-ltb, le-ltb}
-use Rattle.gauss_jackson.specs.Moves.{committed}
+use Rattle.run.specs.Moves.{committed}
 use Rattle.gauss_jackson.specs.Answers.{stepTaken}
 use Rattle.gauss_jackson.proofs.turns.take_step.Statement.{statement}
 use Rattle.gauss_jackson.proofs.turns.take_step.Tie as tie

@@ -1,0 +1,227 @@
+-- What `soundOf` says, as facts on numbers, both ways; and how the counts move on.
+use mathlib.Core.Path.{_≡_, refl, sym, subst, _∙_}
+use mathlib.Core.Logic.{_≢_}
+use Prim.Native.Nat.{ℕ, _+_, _-_, _*_, _%_, _≤_, _<_}
+use native.Mathlib.Nat.{le-trans, mul-le-mul}
+use native.Mathlib.Omega.{arith}
+use mathlib.Core.Bool.{Bool, true, false, not, _&&_, cond}
+use lib.Dec.{eqb, ltb, leb}
+use borrow.Author.Tests.{leb-true, ltb-true, ltb-false, eqb-true, eqb-false, le-leb, lt-ltb, le-ltb, eq-eqb, ne-eqb}
+use Rattle.run.specs.declared.Settings.{Settings}
+use Rattle.run.specs.declared.Count.{Count}
+use Rattle.run.specs.declared.Body.{Body}
+use Rattle.run.specs.declared.Run.{Run}
+use Rattle.run.specs.declared.waiting.Stage.{Stage}
+use Rattle.run.specs.declared.waiting.Stage.the-variants.{First, Second, Third, Fourth}
+use Rattle.run.specs.declared.waiting.Waiting.{Waiting}
+use Rattle.run.specs.declared.waiting.Waiting.the-variants.{Epoch, Forward, Backward, Survey, Pass, Step, Tail, TailSample, Ended, Unknown}
+use Rattle.run.specs.Plan.{withinLimits}
+use Rattle.run.specs.Waiting.{stageNo, markOf, waitingOf}
+use Rattle.run.specs.Counting.{idle, forwardCounts, backwardCounts, rank, pointCounts, passCounts, startedUp, stepCounts, countsOf, soundOf, Small, Ready}
+use Rattle.run.proofs.Decoding.{read}
+
+-- ---- tests
+apart : {A : Type 0} → false ≡ true → A
+apart e = let z : _≡_ {A = ℕ} 0 1 = cc in absurd (omega arith)
+
+pub both : (p q : Bool) → p && q ≡ true → (p ≡ true) × (q ≡ true)
+both true q e = (refl, e)
+both false q e = apart e
+
+joined : (p q : Bool) → p ≡ true → q ≡ true → p && q ≡ true
+joined p q e f = rw (e, f)
+
+-- a test that holds leaves the next
+pub given : (p q x : Bool) → p ≡ true → x ≡ q → x ≡ (p && q)
+given p q x e f = rw e f
+
+-- ---- the counts, as facts
+pub record Idle (b : Body) : Type 0 where
+  pub passes : b .«startup_iters» ≡ 0
+  pub steps : b .track .steps ≡ 0
+
+-- the startup passes made
+pub record Started (b : Body) : Type 0 where
+  pub most : b .«startup_iters» ≤ b .plan .settings .«max_startup_iters»
+  pub some : b .«startup_iters» ≡ 0 → b .plan .settings .«max_startup_iters» ≡ 0
+
+-- e answers after the startup, of which k belong to the open step
+pub record Stepping (k e : ℕ) (b : Body) : Type 0 where
+  pub started : Started b
+  pub four : 4 ≤ b .track .steps
+  pub lower : 41 + 8 * b .«startup_iters» + k + (b .track .steps - 4) ≤ e
+  pub upper : e ≤ 41 + 8 * b .«startup_iters» + k + (b .track .steps - 4) * (1 + b .plan .settings .«max_corrector_iters»)
+
+pub record Point (i before e : ℕ) : Type 0 where
+  pub last : i ≤ 8
+  pub other : i ≢ 4
+  pub answers : e ≡ before + rank i
+
+abbrev pub Counts : Waiting → ℕ → Body → Type 0
+Counts Epoch e b = (e ≡ 0) × Idle b
+Counts (Forward i s) e b = (4 ≤ i) × (i ≤ 7) × (e ≡ 4 * i + stageNo s - 15) × Idle b
+Counts (Backward i s) e b = (1 ≤ i) × (i ≤ 4) × (e ≡ 33 + stageNo s - 4 * i) × Idle b
+Counts (Survey i) e b = Point i 33 e × Idle b
+Counts (Pass i) e b = (b .«startup_iters» < b .plan .settings .«max_startup_iters») × (b .track .steps ≡ 0) × Point i (41 + 8 * b .«startup_iters») e
+Counts (Step c) e b = (c ≤ b .plan .settings .«max_corrector_iters») × (b .track .steps < b .plan .settings .«max_steps») × Stepping c e b
+Counts (Tail s) e b = (b .track .steps < b .plan .settings .«max_steps») × Stepping (stageNo s) e b
+Counts TailSample e b = (b .plan .settings .samples ≡ true) × (b .track .steps < b .plan .settings .«max_steps») × Stepping 4 e b
+Counts Ended e b = ⊥
+Counts Unknown e b = ⊥
+
+-- ---- from the tests to the facts
+to-idle : (b : Body) → idle b ≡ true → Idle b
+unfolding idle
+to-idle b t = let h = both _ _ t in record { passes = eqb-true _ _ (h .0); steps = eqb-true _ _ (h .1) }
+
+pub to-started : (b : Body) → startedUp b ≡ true → Started b
+unfolding startedUp
+to-started b t =
+    let h = both _ _ t in
+    record { most = leb-true _ _ (h .0); some = λ z. go (eqb (b .«startup_iters») 0) (eq-eqb _ _ z) (h .1) }
+  where
+    go : (d : Bool) → d ≡ true → cond d (eqb (b .plan .settings .«max_startup_iters») 0) (not false) ≡ true → b .plan .settings .«max_startup_iters» ≡ 0
+    go true e u = eqb-true _ _ u
+    go false e u = apart e
+
+pub below : (k e : ℕ) (b : Body) → stepCounts k e b ≡ true → (b .track .steps < b .plan .settings .«max_steps») × Stepping k e b
+unfolding stepCounts
+below k e b t =
+    let h = both _ _ t in
+    let i = both _ _ (h .0) in
+    let j = both _ _ (i .0) in
+    let l = both _ _ (j .0) in
+    (ltb-true _ _ (j .1), record { started = to-started b (l .0); four = leb-true _ _ (l .1); lower = leb-true _ _ (i .1); upper = leb-true _ _ (h .1) })
+
+to-point : (i before e : ℕ) → pointCounts i before e ≡ true → Point i before e
+unfolding pointCounts
+to-point i before e t =
+    let h = both _ _ t in
+    let k = both _ _ (h .0) in
+    record { last = leb-true _ _ (k .0); other = go (eqb i 4) refl (k .1); answers = eqb-true _ _ (h .1) }
+  where
+    go : (d : Bool) → eqb i 4 ≡ d → not d ≡ true → i ≢ 4
+    go true q u = apart u
+    go false q u = eqb-false _ _ q
+
+to-counts : (w : Waiting) (e : ℕ) (b : Body) → countsOf w e b ≡ true → Counts w e b
+unfolding countsOf forwardCounts backwardCounts passCounts
+to-counts Epoch e b t = let h = both _ _ t in (eqb-true _ _ (h .0), to-idle b (h .1))
+to-counts (Forward i s) e b t = let h = both _ _ t in let k = both _ _ (h .0) in let l = both _ _ (k .0) in (leb-true _ _ (l .0), leb-true _ _ (l .1), eqb-true _ _ (k .1), to-idle b (h .1))
+to-counts (Backward i s) e b t = let h = both _ _ t in let k = both _ _ (h .0) in let l = both _ _ (k .0) in (leb-true _ _ (l .0), leb-true _ _ (l .1), eqb-true _ _ (k .1), to-idle b (h .1))
+to-counts (Survey i) e b t = let h = both _ _ t in (to-point i 33 e (h .0), to-idle b (h .1))
+to-counts (Pass i) e b t = let h = both _ _ t in let k = both _ _ (h .0) in (ltb-true _ _ (k .0), eqb-true _ _ (k .1), to-point i _ e (h .1))
+to-counts (Step c) e b t = let h = both _ _ t in let k = below c e b (h .1) in (leb-true _ _ (h .0), k .0, k .1)
+to-counts (Tail s) e b t = below (stageNo s) e b t
+to-counts TailSample e b t = let h = both _ _ t in let k = below 4 e b (h .1) in (h .0, k .0, k .1)
+to-counts Ended e b t = apart t
+to-counts Unknown e b t = apart t
+
+-- ---- and back
+from-idle : (b : Body) → Idle b → idle b ≡ true
+unfolding idle
+from-idle b h = simp (eq-eqb _ _ (h .passes), eq-eqb _ _ (h .steps))
+
+from-started : (b : Body) → Started b → startedUp b ≡ true
+unfolding startedUp
+from-started b h = rw (le-leb _ _ (h .most)) (go (eqb (b .«startup_iters») 0) refl)
+  where
+    go : (d : Bool) → eqb (b .«startup_iters») 0 ≡ d → cond d (eqb (b .plan .settings .«max_startup_iters») 0) (not false) ≡ true
+    go true e = eq-eqb _ _ (h .some (eqb-true _ _ e))
+    go false e = refl
+
+from-below : (k e : ℕ) (b : Body) → b .track .steps < b .plan .settings .«max_steps» → Stepping k e b → stepCounts k e b ≡ true
+unfolding stepCounts
+from-below k e b m h = rw (from-started b (h .started), le-leb _ _ (h .four), lt-ltb _ _ m, le-leb _ _ (h .lower), le-leb _ _ (h .upper))
+
+from-point : (i before e : ℕ) → Point i before e → pointCounts i before e ≡ true
+unfolding pointCounts
+from-point i before e h = rw (le-leb _ _ (h .last), ne-eqb _ _ (h .other), eq-eqb _ _ (h .answers))
+
+from-counts : (w : Waiting) (e : ℕ) (b : Body) → Counts w e b → countsOf w e b ≡ true
+unfolding countsOf forwardCounts backwardCounts passCounts
+from-counts Epoch e b c = rw (eq-eqb _ _ (c .0), from-idle b (c .1))
+from-counts (Forward i s) e b c = rw (le-leb _ _ (c .0), le-leb _ _ (c .1), eq-eqb _ _ (c .2), from-idle b (c .3))
+from-counts (Backward i s) e b c = rw (le-leb _ _ (c .0), le-leb _ _ (c .1), eq-eqb _ _ (c .2), from-idle b (c .3))
+from-counts (Survey i) e b c = rw (from-point i 33 e (c .0), from-idle b (c .1))
+from-counts (Pass i) e b c = rw (lt-ltb _ _ (c .0), eq-eqb _ _ (c .1), from-point i _ e (c .2))
+from-counts (Step n) e b c = rw (le-leb _ _ (c .0), from-below n e b (c .1) (c .2))
+from-counts (Tail s) e b c = from-below (stageNo s) e b (c .0) (c .1)
+from-counts TailSample e b c = joined (b .plan .settings .samples) (stepCounts 4 e b) (c .0) (from-below 4 e b (c .1) (c .2))
+from-counts Ended e b c = absurd c
+from-counts Unknown e b c = absurd c
+
+-- ---- a sound run
+pub record Facts (run : Run) : Type 0 where
+  pub limited : withinLimits (run .body .plan .settings) ≡ true
+  pub numbered : run .mark .count .number ≡ run .mark .count .evals % 65536
+  pub counted : Counts (waitingOf (run .mark)) (run .mark .count .evals) (run .body)
+
+pub to-small : (b : Body) → withinLimits (b .plan .settings) ≡ true → Small b
+unfolding withinLimits
+to-small b t = let h = both _ _ t in let k = both _ _ (h .0) in record { startups = leb-true _ _ (k .0); passes = leb-true _ _ (k .1); steps = leb-true _ _ (h .1) }
+
+pub to-facts : (run : Run) → soundOf run ≡ true → Facts run
+unfolding soundOf
+to-facts run t =
+    let h = both _ _ t in
+    let k = both _ _ (h .0) in
+    record { limited = k .0; numbered = eqb-true _ _ (k .1); counted = to-counts (waitingOf (run .mark)) (run .mark .count .evals) (run .body) (h .1) }
+
+-- a run that has just been marked at a waiting point
+pub sound-at : (w : Waiting) (c : Count) (b : Body) → withinLimits (b .plan .settings) ≡ true → c .number ≡ c .evals % 65536 → Counts w (c .evals) b
+    → soundOf (record { mark = markOf w c; body = b }) ≡ true
+unfolding soundOf
+sound-at w c b l n h = rw (l, eq-eqb _ _ n, read w c, from-counts w (c .evals) b h)
+
+-- ---- no count wraps
+pub rank-le : (i : ℕ) → rank i ≤ i
+unfolding rank
+rank-le i = go (ltb i 4)
+  where
+    go : (d : Bool) → cond d i (i - 1) ≤ i
+    go true = omega arith
+    go false = omega arith
+
+-- the answers of all steps
+pub few : (b : Body) → b .track .steps < b .plan .settings .«max_steps» → Small b → (b .track .steps - 4) * (1 + b .plan .settings .«max_corrector_iters») ≤ 101_000_000
+few b m s = le-trans (mul-le-mul {n₂ = 1_000_000} {m₂ = 101} (omega (arith, s .steps)) (omega (arith, s .passes))) (omega arith)
+
+answers-small : (w : Waiting) (e : ℕ) (b : Body) → Small b → Counts w e b → e < 1_000_000_000
+answers-small Epoch e b s c = omega arith
+answers-small (Forward i First) e b s c = omega arith
+answers-small (Forward i Second) e b s c = omega arith
+answers-small (Forward i Third) e b s c = omega arith
+answers-small (Forward i Fourth) e b s c = omega arith
+answers-small (Backward i First) e b s c = omega arith
+answers-small (Backward i Second) e b s c = omega arith
+answers-small (Backward i Third) e b s c = omega arith
+answers-small (Backward i Fourth) e b s c = omega arith
+answers-small (Survey i) e b s c = omega (arith, rank-le i)
+answers-small (Pass i) e b s c = omega (arith, rank-le i, s .startups)
+answers-small (Step n) e b s c = omega (arith, few b (c .1) s, c .2 .started .most, s .startups, s .passes)
+answers-small (Tail First) e b s c = omega (arith, few b (c .0) s, c .1 .started .most, s .startups)
+answers-small (Tail Second) e b s c = omega (arith, few b (c .0) s, c .1 .started .most, s .startups)
+answers-small (Tail Third) e b s c = omega (arith, few b (c .0) s, c .1 .started .most, s .startups)
+answers-small (Tail Fourth) e b s c = omega (arith, few b (c .0) s, c .1 .started .most, s .startups)
+answers-small TailSample e b s c = omega (arith, few b (c .1) s, c .2 .started .most, s .startups)
+answers-small Ended e b s c = absurd c
+answers-small Unknown e b s c = absurd c
+
+pub evals-small : (run : Run) → soundOf run ≡ true → run .mark .count .evals < 1_000_000_000
+evals-small run t = let f = to-facts run t in answers-small (waitingOf (run .mark)) (run .mark .count .evals) (run .body) (to-small (run .body) (f .limited)) (f .counted)
+
+ready-at : (w : Waiting) (e : ℕ) (b : Body) → Small b → Counts w e b → Ready w b
+ready-at Epoch e b s c = tt
+ready-at (Forward i st) e b s c = omega arith
+ready-at (Backward i st) e b s c = omega arith
+ready-at (Survey i) e b s c = tt
+ready-at (Pass i) e b s c = omega (arith, s .startups)
+ready-at (Step n) e b s c = (s .passes, omega (arith, s .steps))
+ready-at (Tail st) e b s c = omega (arith, s .steps)
+ready-at TailSample e b s c = omega (arith, s .steps)
+ready-at Ended e b s c = absurd c
+ready-at Unknown e b s c = absurd c
+
+pub ready : (run : Run) → soundOf run ≡ true → Ready (waitingOf (run .mark)) (run .body)
+ready run t = let f = to-facts run t in ready-at (waitingOf (run .mark)) (run .mark .count .evals) (run .body) (to-small (run .body) (f .limited)) (f .counted)

@@ -1,0 +1,16 @@
+-- `direction_of` is `direction`.
+use lib.Ieee.{ofBits, ofInt, neg}
+use Rattle.run.specs.Plan.{direction}
+use Rattle.run.proofs.formulas.direction_of.Statement.{statement}
+use Rattle.run.proofs.formulas.direction_of.Tie as tie
+
+returns : tie.Need-returns
+unfolding direction ofBits ofInt
+returns c = simp (c .if1 .taken)
+
+returns-2 : tie.Need-returns-2
+unfolding direction ofBits ofInt neg
+returns-2 c = simp (c .if1 .left)
+
+pub direction-of-spec : {M : Type 1} → statement M
+direction-of-spec = tie.close (tie.spec returns returns-2)

@@ -1,0 +1,17 @@
+-- `is_at_rest` is `rests`.
+use mathlib.Core.Path.{sym, _∙_}
+use borrow.Author.Needs.{needs}
+use Rattle.run.specs.Formulas.{rests}
+use Rattle.run.proofs.formulas.is_at_rest.Statement.{statement}
+use Rattle.run.proofs.formulas.is_at_rest.Tie as tie
+
+returns : tie.Need-returns
+unfolding rests
+returns c = simp (sym (c .before .before .is-still .ensures) ∙ c .before .if1 .taken, c .is-still2 .ensures)
+
+returns-2 : tie.Need-returns-2
+unfolding rests
+returns-2 c = simp (sym (c .before .is-still .ensures) ∙ c .if1 .left)
+
+pub is-at-rest-spec : {M : Type 1} → statement M
+is-at-rest-spec = tie.close (tie.spec (λ c κs. search needs) (λ c κs. search needs) returns returns-2)

@@ -1,0 +1,13 @@
+-- `formulas::is_due` is `goesOn`.
+use lib.Ieee.{ofBits}
+use borrow.Author.Needs.{needs}
+use Rattle.run.specs.Formulas.{goesOn}
+use Rattle.run.proofs.formulas.is_due.Statement.{statement}
+use Rattle.run.proofs.formulas.is_due.Tie as tie
+
+returns : tie.Need-returns
+unfolding goesOn ofBits
+returns c = simp (c .direction-of .ensures)
+
+pub is-due-spec : {M : Type 1} → statement M
+is-due-spec = tie.close (tie.spec (λ c κs. search needs) returns)

@@ -1,0 +1,12 @@
+-- `formulas::tail_from` is `tailPoint`.
+use mathlib.Core.Path.{refl}
+use Rattle.run.specs.Formulas.{tailPoint}
+use Rattle.run.proofs.formulas.tail_from.Statement.{statement}
+use Rattle.run.proofs.formulas.tail_from.Tie as tie
+
+returns : tie.Need-returns
+unfolding tailPoint
+returns c = refl
+
+pub tail-from-spec : {M : Type 1} → statement M
+tail-from-spec = tie.close (tie.spec returns)

@@ -1,0 +1,13 @@
+-- `questions::no_point` is `nowhere`.
+use lib.Ieee.{ofBits}
+use borrow.Author.Needs.{needs}
+use Rattle.run.specs.Questions.{nowhere}
+use Rattle.run.proofs.questions.no_point.Statement.{statement}
+use Rattle.run.proofs.questions.no_point.Tie as tie
+
+returns : tie.Need-returns
+unfolding nowhere ofBits
+returns c = simp (c .zero .ensures)
+
+pub no-point-spec : {M : Type 1} → statement M
+no-point-spec = tie.close (tie.spec (λ c κs. search needs) returns)

@@ -1,0 +1,13 @@
+-- `samples::has_room` is `fits`.
+use mathlib.Core.Path.{refl}
+use borrow.Author.Needs.{needs}
+use Rattle.run.specs.Samples.{fits}
+use Rattle.run.proofs.samples.has_room.Statement.{statement}
+use Rattle.run.proofs.samples.has_room.Tie as tie
+
+returns : tie.Need-returns
+unfolding fits
+returns c = refl
+
+pub has-room-spec : {M : Type 1} → statement M
+has-room-spec = tie.close (tie.spec (λ c. search needs) (λ c. search needs) returns)

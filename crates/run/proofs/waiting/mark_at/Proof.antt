@@ -1,0 +1,13 @@
+-- `waiting::mark_at` is `markOf`.
+use borrow.Author.Needs.{needs}
+use Rattle.run.specs.Waiting.{markOf}
+use Rattle.run.proofs.waiting.mark_at.Statement.{statement}
+use Rattle.run.proofs.waiting.mark_at.Tie as tie
+
+returns : tie.Need-returns
+unfolding markOf
+returns c = simp (c .stage-at .ensures, c .before .index-number .ensures, c .before .before .at-number .ensures)
+
+pub mark-at-spec : {M : Type 1} → statement M
+mark-at-spec =
+    tie.close (tie.spec (λ c κs. search needs) (λ c κs. search needs) (λ c κs. search needs) returns)

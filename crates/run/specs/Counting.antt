@@ -1,0 +1,88 @@
+-- 01, answer 7: a run "has ended, or is made up: a setting over its limit, a pass, step or answer count outside what the counting below allows
+-- at its waiting point, times and tolerances aside, or a question number that is not the answer count's remainder by 65,536".
+-- e is the count of answers accepted before the open question: 1 at the epoch, 16 in each RK4 half, 8 in the survey, 8 in each startup pass.
+use Prim.Native.Nat.{ℕ, _+_, _-_, _*_, _%_, _≤_, _<_}
+use mathlib.Core.Bool.{Bool, false, not, _&&_, _||_, cond}
+use lib.Dec.{eqb, ltb, leb}
+use Rattle.run.specs.declared.Run.{Run}
+use Rattle.run.specs.declared.Body.{Body}
+use Rattle.run.specs.declared.waiting.Stage.{Stage}
+use Rattle.run.specs.declared.waiting.Waiting.{Waiting}
+use Rattle.run.specs.declared.waiting.Waiting.the-variants.{Epoch, Forward, Backward, Survey, Pass, Step, Tail, TailSample, Ended, Unknown}
+use Rattle.run.specs.Plan.{withinLimits}
+use Rattle.run.specs.Waiting.{stageNo, waitingOf}
+
+-- no startup pass is made, and no step
+unfoldable pub idle : Body → Bool
+idle b = eqb (b .«startup_iters») 0 && eqb (b .track .steps) 0
+
+-- on from point i, 4 to 7: e = 1 + 4(i-4) + stage
+unfoldable pub forwardCounts : ℕ → Stage → ℕ → Bool
+forwardCounts i s e = leb 4 i && leb i 7 && eqb e (4 * i + stageNo s - 15)
+
+-- back from point i, 4 to 1: e = 17 + 4(4-i) + stage
+unfoldable pub backwardCounts : ℕ → Stage → ℕ → Bool
+backwardCounts i s e = leb 1 i && leb i 4 && eqb e (33 + stageNo s - 4 * i)
+
+-- how many of the points 0, 1, 2, 3, 5, 6, 7, 8 come before point i
+unfoldable pub rank : ℕ → ℕ
+rank i = cond (ltb i 4) i (i - 1)
+
+unfoldable pub pointCounts : ℕ → ℕ → ℕ → Bool
+pointCounts i before e = leb i 8 && not (eqb i 4) && eqb e (before + rank i)
+
+unfoldable pub passCounts : ℕ → ℕ → Body → Bool
+passCounts i e b =
+    ltb (b .«startup_iters») (b .plan .settings .«max_startup_iters») && eqb (b .track .steps) 0 && pointCounts i (41 + 8 * b .«startup_iters») e
+
+-- S "from 1, or 0 where max_startup_iters is 0, to max_startup_iters"
+unfoldable pub startedUp : Body → Bool
+startedUp b =
+    leb (b .«startup_iters») (b .plan .settings .«max_startup_iters»)
+    && cond (eqb (b .«startup_iters») 0) (eqb (b .plan .settings .«max_startup_iters») 0) (not false)
+
+-- n steps, 4 <= n < max_steps, and k answers in the open one: e from 41 + 8S + k + (n-4) to 41 + 8S + k + (n-4)(1+C)
+unfoldable pub stepCounts : ℕ → ℕ → Body → Bool
+stepCounts k e b =
+    startedUp b
+    && leb 4 (b .track .steps)
+    && ltb (b .track .steps) (b .plan .settings .«max_steps»)
+    && leb (41 + 8 * b .«startup_iters» + k + (b .track .steps - 4)) e
+    && leb e (41 + 8 * b .«startup_iters» + k + (b .track .steps - 4) * (1 + b .plan .settings .«max_corrector_iters»))
+
+unfoldable pub countsOf : Waiting → ℕ → Body → Bool
+countsOf Epoch e b = eqb e 0 && idle b
+countsOf (Forward i s) e b = forwardCounts i s e && idle b
+countsOf (Backward i s) e b = backwardCounts i s e && idle b
+countsOf (Survey i) e b = pointCounts i 33 e && idle b
+countsOf (Pass i) e b = passCounts i e b
+countsOf (Step c) e b = leb c (b .plan .settings .«max_corrector_iters») && stepCounts c e b
+countsOf (Tail s) e b = stepCounts (stageNo s) e b
+countsOf TailSample e b = b .plan .settings .samples && stepCounts 4 e b
+countsOf Ended e b = false
+countsOf Unknown e b = false
+
+unfoldable pub soundOf : Run → Bool
+soundOf run =
+    withinLimits (run .body .plan .settings)
+    && eqb (run .mark .count .number) (run .mark .count .evals % 65536)
+    && countsOf (waitingOf (run .mark)) (run .mark .count .evals) (run .body)
+
+-- the settings' limits, as numbers
+pub record Small (b : Body) : Type 0 where
+  pub startups : b .plan .settings .«max_startup_iters» ≤ 100
+  pub passes : b .plan .settings .«max_corrector_iters» ≤ 100
+  pub steps : b .plan .settings .«max_steps» ≤ 1_000_000
+
+-- what the code needs of a sound run, so that no index runs out and no count wraps
+abbrev pub Ready : Waiting → Body → Type 0
+Ready Epoch b = Unit {0}
+Ready (Forward i s) b = i < 8
+Ready (Backward i s) b = 0 < i
+Ready (Survey i) b = Unit {0}
+Ready (Pass i) b = b .«startup_iters» ≤ 1000
+Ready (Step c) b = (b .plan .settings .«max_corrector_iters» ≤ 100) × (b .track .steps ≤ 1_000_000_000)
+Ready (Tail s) b = b .track .steps ≤ 1_000_000_000
+Ready TailSample b = b .track .steps ≤ 1_000_000_000
+Ready Ended b = Unit {0}
+Ready Unknown b = Unit {0}

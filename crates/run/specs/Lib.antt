@@ -1,0 +1,7 @@
+pub mod Plan
+pub mod Formulas
+pub mod Waiting
+pub mod Questions
+pub mod Moves
+pub mod Samples
+pub mod Counting

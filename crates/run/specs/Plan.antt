@@ -1,0 +1,43 @@
+-- 01, "Numbered answers" (limits and defaults) and "Startup" (the step): what a start makes of its arguments.
+use Prim.Native.Nat.{ℕ, _^_}
+use mathlib.Core.Bool.{Bool, false, _&&_, _||_, cond}
+use lib.Dec.{leb}
+use lib.IntN.{pos}
+use lib.Ieee.{Float, binary64, round, neg, sub, mul, div, lt, le, eq, ofInt}
+use Rattle.triple.specs.Arithmetic.{nought}
+use Rattle.triple.specs.Size.{absolute}
+use Rattle.run.specs.declared.Settings.{Settings}
+use Rattle.run.specs.declared.Plan.{Plan}
+
+-- the double nearest 10 ^ -n
+abbrev pub decimal : ℕ → Float
+decimal n = round binary64 false 1 (10 ^ n)
+
+-- "Defaults as in the module: h 60, corrector passes 2, startup passes 12, tolerances 1e-13, max_steps 1,000,000, no samples."
+unfoldable pub defaultSettings : Settings
+defaultSettings =
+    record {
+      h = ofInt binary64 (pos 60);
+      «corrector_tol» = decimal 13;
+      «startup_tol» = decimal 13;
+      «max_corrector_iters» = 2;
+      «max_startup_iters» = 12;
+      «max_steps» = 1_000_000;
+      samples = false;
+    }
+
+-- "Limits: max_startup_iters and max_corrector_iters 0 to 100, max_steps 0 to 1,000,000."
+unfoldable pub withinLimits : Settings → Bool
+withinLimits s = leb (s .«max_startup_iters») 100 && leb (s .«max_corrector_iters») 100 && leb (s .«max_steps») 1_000_000
+
+-- "dir = 1 if tf >= t0, else -1 (a NaN gives -1)"
+unfoldable pub direction : Float → Float → Float
+direction t0 tf = cond (le t0 tf) (ofInt binary64 (pos 1)) (neg (ofInt binary64 (pos 1)))
+
+-- "h = abs(setting)·dir"
+unfoldable pub planOf : Settings → Float → Float → Plan
+planOf s t0 tf = record { settings = s; t0 = t0; tf = tf; h = mul binary64 (absolute (s .h)) (direction t0 tf) }
+
+-- 1: "h is zero, or abs(span/h) is below 8"
+unfoldable pub tooNear : Plan → Bool
+tooNear p = eq (p .h) nought || lt (absolute (div binary64 (sub binary64 (p .tf) (p .t0)) (p .h))) (ofInt binary64 (pos 8))

@@ -1,0 +1,53 @@
+-- What each waiting point asks: a time, a position and a velocity.
+use Prim.Native.Nat.{ℕ}
+use lib.Ieee.{Float, binary64, neg, add}
+use Rattle.triple.specs.declared.Point.{Point}
+use Rattle.triple.specs.Arithmetic.{nought, zeros}
+use Rattle.triple.specs.Nine.{at}
+use Rattle.rk4.specs.Rk4.{second, third, fourth}
+use Rattle.startup.specs.Points.{pointAt}
+use Rattle.run.specs.declared.Body.{Body}
+use Rattle.run.specs.declared.Slopes.{Slopes}
+use Rattle.run.specs.declared.waiting.Stage.{Stage}
+use Rattle.run.specs.declared.waiting.Stage.the-variants.{First, Second, Third, Fourth}
+use Rattle.run.specs.declared.waiting.Waiting.{Waiting}
+use Rattle.run.specs.declared.waiting.Waiting.the-variants.{Epoch, Forward, Backward, Survey, Pass, Step, Tail, TailSample, Ended, Unknown}
+use Rattle.run.specs.Formulas.{remains, tailPoint}
+
+-- the four questions of an RK4 step from p over h
+unfoldable pub stageQuestion : Stage → Point → Float → Slopes → Point
+stageQuestion First p h l = p
+stageQuestion Second p h l = second p h (l .l1)
+stageQuestion Third p h l = third p h (l .l1) (l .l2)
+stageQuestion Fourth p h l = fourth p h (l .l2) (l .l3)
+
+-- point i of the startup
+unfoldable pub gridPoint : Body → ℕ → Point
+gridPoint b i = pointAt (b .plan .t0) (b .plan .h) (b .places) i
+
+-- the epoch, at t0 as it came
+unfoldable pub epochPoint : Body → Point
+epochPoint b = record { t = b .plan .t0; r = at (b .places .r) 4; v = at (b .places .v) 4 }
+
+-- a step's end: "ask at t + h"
+unfoldable pub endPoint : Body → Point
+endPoint b = record { t = add binary64 (b .track .t) (b .plan .h); r = b .trial .state .r; v = b .trial .state .v }
+
+-- the tail's end: "with samples one more question at tf"
+unfoldable pub lastPoint : Body → Point
+lastPoint b = record { t = b .plan .tf; r = b .trial .state .r; v = b .trial .state .v }
+
+unfoldable pub nowhere : Point
+nowhere = record { t = nought; r = zeros; v = zeros }
+
+unfoldable pub question : Waiting → Body → Point
+question Epoch b = epochPoint b
+question (Forward i s) b = stageQuestion s (gridPoint b i) (b .plan .h) (b .slopes)
+question (Backward i s) b = stageQuestion s (gridPoint b i) (neg (b .plan .h)) (b .slopes)
+question (Survey i) b = gridPoint b i
+question (Pass i) b = gridPoint b i
+question (Step c) b = endPoint b
+question (Tail s) b = stageQuestion s (tailPoint (b .track)) (remains (b .plan) (b .track .t)) (b .slopes)
+question TailSample b = lastPoint b
+question Ended b = nowhere
+question Unknown b = nowhere

@@ -1,0 +1,233 @@
+// What an answer makes of the mathematics: from a body to the next, each by value.
+ghost use mathlib.Core.Path.{_≡_};
+ghost use Prim.Native.Nat.{_+_, _<_, _≤_};
+ghost use Rattle.run.specs.Moves.{freshBody, slopesWith, kept, stepEnd, movedOn, movedBack, surveyed, passBegun, renewed, passMade, launched, predicted, tried, tailEnd, committed};
+use crate::Body;
+use crate::Plan;
+use crate::Slopes;
+use crate::Track;
+use crate::Trial;
+use crate::formulas;
+use crate::questions;
+use crate::waiting::Stage;
+use startup::Widest;
+use startup::passes;
+use sums::Fixed;
+use sums::Sums;
+use triple::Point;
+use triple::State;
+use triple::Triple;
+use triple::nine;
+
+// Before the first answer.
+pub fn fresh_body(plan: Plan, r0: Triple, v0: Triple) -> Body
+    ensures { λ b. ⌜ b ≡ freshBody plan r0 v0 ⌝ }
+{
+    let zero = Triple::zero();
+    let places = startup::first_places(r0, v0);
+    let a = nine::zeros();
+    let slopes = Slopes {
+        l1: zero,
+        l2: zero,
+        l3: zero,
+    };
+    let widest = Widest {
+        delta: 0.0,
+        mag: 0.0,
+    };
+    let state = State { r: zero, v: zero };
+    let sums = Sums {
+        s: zero,
+        big_s: zero,
+    };
+    let fixed = Fixed { fa: zero, fb: zero };
+    let track = Track {
+        t: 0.0,
+        steps: 0,
+        state,
+        sums,
+    };
+    let trial = Trial { state, fixed };
+    Body {
+        plan,
+        places,
+        a,
+        slopes,
+        widest,
+        startup_iters: 0,
+        track,
+        trial,
+    }
+}
+
+fn with_slope(s: Stage, l: Slopes, a: Triple) -> Slopes
+    ensures { λ n. ⌜ n ≡ slopesWith s l a ⌝ }
+{
+    let l1 = l.l1;
+    let l2 = l.l2;
+    let l3 = l.l3;
+    match s {
+        Stage::First => Slopes { l1: a, l2, l3 },
+        Stage::Second => Slopes { l1, l2: a, l3 },
+        Stage::Third => Slopes { l1, l2, l3: a },
+        Stage::Fourth => l,
+    }
+}
+
+// An RK4 step has one more acceleration.
+pub fn keep(s: Stage, b: Body, a: Triple) -> Body
+    ensures { λ n. ⌜ n ≡ kept s b a ⌝ }
+{
+    let slopes = with_slope(s, b.slopes, a);
+    let mut next = b;
+    next.slopes = slopes;
+    next
+}
+
+// Where the open RK4 step from p over h ends, with its fourth acceleration.
+fn end_of(p: Point, h: f64, l: Slopes, a: Triple) -> State
+    ensures { λ x. ⌜ x ≡ stepEnd p h l a ⌝ }
+{
+    rk4::end_of_step(p, h, l.l1, l.l2, l.l3, a)
+}
+
+// The RK4 step on from point i has ended.
+pub fn move_on(i: u8, b: Body, a: Triple) -> Body
+    requires { ⌜ i < 8 ⌝ }
+    ensures { λ n. ⌜ n ≡ movedOn i b a ⌝ }
+{
+    let end = end_of(questions::grid_point(b, i), b.plan.h, b.slopes, a);
+    let places = startup::place(i + 1, end, b.places);
+    let mut next = b;
+    next.places = places;
+    next
+}
+
+// The RK4 step back from point i has ended.
+pub fn move_back(i: u8, b: Body, a: Triple) -> Body
+    requires { ⌜ 0 < i ⌝ }
+    ensures { λ n. ⌜ n ≡ movedBack i b a ⌝ }
+{
+    let end = end_of(questions::grid_point(b, i), -b.plan.h, b.slopes, a);
+    let places = startup::place(i - 1, end, b.places);
+    let mut next = b;
+    next.places = places;
+    next
+}
+
+// Point i, the epoch too, has its first acceleration.
+pub fn survey(i: u8, b: Body, a: Triple) -> Body
+    ensures { λ n. ⌜ n ≡ surveyed i b a ⌝ }
+{
+    let old = b.a;
+    let new = nine::replaced(old, i as usize, a);
+    let mut next = b;
+    next.a = new;
+    next
+}
+
+// A pass begins: all points corrected, no change met yet.
+pub fn begin_pass(b: Body) -> Body
+    ensures { λ n. ⌜ n ≡ passBegun b ⌝ }
+{
+    let a = b.a;
+    let places = passes::corrected(b.plan.h, b.places, a);
+    let widest = passes::calm_at(a);
+    let mut next = b;
+    next.places = places;
+    next.widest = widest;
+    next
+}
+
+// Point i has its acceleration afresh.
+pub fn renew(i: u8, b: Body, a: Triple) -> Body
+    ensures { λ n. ⌜ n ≡ renewed i b a ⌝ }
+{
+    let old = b.a;
+    let before = nine::element(old, i as usize);
+    let widest = passes::widen(b.widest, before, a);
+    let new = nine::replaced(old, i as usize, a);
+    let mut next = b;
+    next.a = new;
+    next.widest = widest;
+    next
+}
+
+// One more startup pass is made.
+pub fn end_pass(b: Body) -> Body
+    requires { ⌜ b .«startup_iters» ≤ 1000 ⌝ }
+    ensures { λ n. ⌜ n ≡ passMade b ⌝ }
+{
+    let mut next = b;
+    next.startup_iters = b.startup_iters + 1;
+    next
+}
+
+// The startup is done: four steps, at point 8.
+pub fn launch(b: Body) -> Body
+    ensures { λ n. ⌜ n ≡ launched b ⌝ }
+{
+    let a = b.a;
+    let state = startup::state_at(b.places, 8);
+    let sums = passes::last_sums(b.plan.h, b.places, a);
+    let track = Track {
+        t: startup::time_at(b.plan.t0, b.plan.h, 8),
+        steps: 4,
+        state,
+        sums,
+    };
+    let mut next = b;
+    next.track = track;
+    next
+}
+
+// A step is open at its prediction.
+pub fn predict(b: Body) -> Body
+    ensures { λ n. ⌜ n ≡ predicted b ⌝ }
+{
+    let a = b.a;
+    let state = sums::predicted(b.plan.h, b.track.sums, a);
+    let fixed = sums::fixed_of(a);
+    let trial = Trial { state, fixed };
+    let mut next = b;
+    next.trial = trial;
+    next
+}
+
+// The open step, or the tail, ends at x so far.
+pub fn try_state(b: Body, x: State) -> Body
+    ensures { λ n. ⌜ n ≡ tried b x ⌝ }
+{
+    let fixed = b.trial.fixed;
+    let trial = Trial { state: x, fixed };
+    let mut next = b;
+    next.trial = trial;
+    next
+}
+
+// Where the tail ends, with its fourth acceleration.
+pub fn end_of_tail(b: Body, a: Triple) -> State
+    ensures { λ x. ⌜ x ≡ tailEnd b a ⌝ }
+{
+    let rem = formulas::left_at(b.plan, b.track.t);
+    end_of(formulas::tail_from(b.track), rem, b.slopes, a)
+}
+
+// The step is made: at x, with the acceleration a.
+pub fn commit(b: Body, x: State, a: Triple) -> Body
+    requires { ⌜ b .track .steps ≤ 10000000000 ⌝ }
+    ensures { λ n. ⌜ n ≡ committed b x a ⌝ }
+{
+    let old = b.a;
+    let track = Track {
+        t: b.track.t + b.plan.h,
+        steps: b.track.steps + 1,
+        state: x,
+        sums: b.track.sums.on(a),
+    };
+    let window = nine::slid(old, a);
+    let mut next = b;
+    next.a = window;
+    next.track = track;
+    next
+}
