@@ -29,10 +29,10 @@ use Rattle.run.specs.declared.waiting.Waiting.{Waiting}
 use Rattle.run.specs.declared.waiting.Waiting.the-variants.{Epoch, Forward, Backward, Survey, Pass, Step, Tail, TailSample, Ended, Unknown}
 use Rattle.run.specs.Plan.{withinLimits, planOf, tooNear}
 use Rattle.run.specs.Formulas.{goesOn, isShort, rests}
-use Rattle.run.specs.Waiting.{markOf, waitingOf}
+use Rattle.run.specs.Waiting.{markOf, waitingOf, nextPoint}
 use Rattle.run.specs.Questions.{question}
 use Rattle.run.specs.Moves.{freshBody, surveyed, kept, movedOn, movedBack, passBegun, renewed, passMade, launched, predicted, tried, committed, tailEnd}
-use Rattle.run.specs.Samples.{fits, putAll, startupSamples, stepSample, lastSample}
+use Rattle.run.specs.Samples.{fits, putAll, startSamples, stepSample, finalSample}
 use Rattle.run.specs.Counting.{soundOf}
 
 -- "Numbers start at 0 and rise by one for each accepted answer; after 65,535 the next question is numbered 0."
@@ -101,11 +101,11 @@ sampling n ss b out x =
 
 -- the startup is done
 unfoldable pub startupEnded : Count → Body → List Float → Turn
-startupEnded c b out = sampling 0 (startupSamples (launched b)) (launched b) out (onward c (launched b))
+startupEnded c b out = sampling 0 (startSamples (b .plan) (b .places) (b .a)) b out (onward c (launched b))
 
 -- a step is made
 unfoldable pub stepEnded : Count → Body → List Float → Turn
-stepEnded c b out = sampling (b .track .steps) (stepSample b ∷ []) b out (onward c b)
+stepEnded c b out = sampling (b .track .steps) (stepSample (b .track) (b .a) ∷ []) b out (onward c b)
 
 -- the head of the startup passes, and the end of one
 unfoldable pub passesOn : Count → Body → List Float → Turn
@@ -121,10 +121,6 @@ passEnded c b out =
     (passesOn c (passMade b) out)
 
 -- ---- an answer at each waiting point
--- after point 3 comes point 5
-unfoldable pub nextPoint : ℕ → ℕ
-nextPoint i = cond (eqb i 3) 5 (i + 1)
-
 unfoldable pub forwardTaken : ℕ → Stage → Count → Body → Triple → Answered
 forwardTaken i First c b x = asking (Forward i Second) c (kept First b x)
 forwardTaken i Second c b x = asking (Forward i Third) c (kept Second b x)
@@ -166,7 +162,7 @@ tailTaken Fourth c b x =
 
 unfoldable pub lastTaken : Count → Body → Triple → List Float → Turn
 lastTaken c b x out =
-    sampling (b .track .steps + 1) (lastSample b x ∷ []) b out
+    sampling (b .track .steps + 1) (finalSample (b .plan) (b .trial .state) x ∷ []) b out
     (ending (solution (b .plan .tf) (b .trial .state) c (b .track .steps + 1) b))
 
 unfoldable pub answeredAt : Waiting → Count → Body → Triple → List Float → Turn

@@ -3,7 +3,7 @@ ghost use mathlib.Core.Path.{_≡_};
 ghost use Prim.Native.Nat.{_<_, _≤_};
 ghost use Rattle.run.specs.Moves.{freshBody};
 ghost use Rattle.run.specs.Counting.{Ready};
-ghost use Rattle.gauss_jackson.specs.Answers.{counted, noPlan, endedRun, ending, asks, asking, solution, onward, startupEnded, stepEnded, passesOn, passEnded, nextPoint, forwardTaken, backwardTaken, surveyTaken, passTaken, stepTaken, tailTaken, lastTaken, answeredAt};
+ghost use Rattle.gauss_jackson.specs.Answers.{counted, noPlan, endedRun, ending, asks, asking, solution, onward, startupEnded, stepEnded, passesOn, passEnded, forwardTaken, backwardTaken, surveyTaken, passTaken, stepTaken, tailTaken, lastTaken, answeredAt};
 use crate::Answered;
 use crate::Outcome;
 use crate::Question;
@@ -149,13 +149,13 @@ fn end_startup(count: Count, b: Body, out: &mut [f64]) -> Answered
     ensures { λ x. ⌜ (x ≡ startupEnded count b (now (out .entry)) .got) × (now (out .exit) ≡ startupEnded count b (now (out .entry)) .out) ⌝ }
 {
     let next = moves::launch(b);
-    if !next.plan.settings.samples {
+    if !b.plan.settings.samples {
         return go_on(count, next);
     }
     if !samples::has_room(0, 5, out) {
         return end(Outcome::Refused(Refusal::SampleRoom));
     }
-    samples::store_startup(next, out);
+    samples::store_startup(b, out);
     go_on(count, next)
 }
 
@@ -195,14 +195,6 @@ fn end_pass(count: Count, b: Body, out: &mut [f64]) -> Answered
         return end_startup(count, next, out);
     }
     go_on_passing(count, next, out)
-}
-
-// The point asked after point i: the epoch is passed over.
-fn point_after(i: u8) -> u8
-    requires { ⌜ i < 8 ⌝ }
-    ensures { λ n. ⌜ n ≡ nextPoint i ⌝ }
-{
-    if i == 3 { 5 } else { i + 1 }
 }
 
 fn take_forward(i: u8, s: Stage, count: Count, b: Body, a: Triple) -> Answered
@@ -270,7 +262,7 @@ fn take_survey(i: u8, count: Count, b: Body, a: Triple, out: &mut [f64]) -> Answ
 {
     let next = moves::survey(i, b, a);
     if i < 8 {
-        return ask(Waiting::Survey(point_after(i)), count, next);
+        return ask(Waiting::Survey(waiting::point_after(i)), count, next);
     }
     go_on_passing(count, next, out)
 }
@@ -281,7 +273,7 @@ fn take_pass(i: u8, count: Count, b: Body, a: Triple, out: &mut [f64]) -> Answer
 {
     let next = moves::renew(i, b, a);
     if i < 8 {
-        return ask(Waiting::Pass(point_after(i)), count, next);
+        return ask(Waiting::Pass(waiting::point_after(i)), count, next);
     }
     end_pass(count, next, out)
 }

@@ -35,22 +35,31 @@ joined p q e f = rw (e, f)
 pub given : (p q x : Bool) → p ≡ true → x ≡ q → x ≡ (p && q)
 given p q x e f = rw e f
 
--- ---- the counts, as facts
-pub record Idle (b : Body) : Type 0 where
-  pub passes : b .«startup_iters» ≡ 0
-  pub steps : b .track .steps ≡ 0
+-- ---- the counts, as facts on numbers: S startup passes of at most M, n steps, C corrector passes at most
+pub record Idle (S n : ℕ) : Type 0 where
+  pub passes : S ≡ 0
+  pub steps : n ≡ 0
 
 -- the startup passes made
-pub record Started (b : Body) : Type 0 where
-  pub most : b .«startup_iters» ≤ b .plan .settings .«max_startup_iters»
-  pub some : b .«startup_iters» ≡ 0 → b .plan .settings .«max_startup_iters» ≡ 0
+pub record Started (S M : ℕ) : Type 0 where
+  pub most : S ≤ M
+  pub some : S ≡ 0 → M ≡ 0
 
 -- e answers after the startup, of which k belong to the open step
-pub record Stepping (k e : ℕ) (b : Body) : Type 0 where
-  pub started : Started b
-  pub four : 4 ≤ b .track .steps
-  pub lower : 41 + 8 * b .«startup_iters» + k + (b .track .steps - 4) ≤ e
-  pub upper : e ≤ 41 + 8 * b .«startup_iters» + k + (b .track .steps - 4) * (1 + b .plan .settings .«max_corrector_iters»)
+pub record Stepping (k e S M n C : ℕ) : Type 0 where
+  pub started : Started S M
+  pub four : 4 ≤ n
+  pub lower : 41 + 8 * S + k + (n - 4) ≤ e
+  pub upper : e ≤ 41 + 8 * S + k + (n - 4) * (1 + C)
+
+abbrev pub IdleBody : Body → Type 0
+IdleBody b = Idle (b .«startup_iters») (b .track .steps)
+
+abbrev pub StartedBody : Body → Type 0
+StartedBody b = Started (b .«startup_iters») (b .plan .settings .«max_startup_iters»)
+
+abbrev pub SteppingBody : ℕ → ℕ → Body → Type 0
+SteppingBody k e b = Stepping k e (b .«startup_iters») (b .plan .settings .«max_startup_iters») (b .track .steps) (b .plan .settings .«max_corrector_iters»)
 
 pub record Point (i before e : ℕ) : Type 0 where
   pub last : i ≤ 8
@@ -58,23 +67,23 @@ pub record Point (i before e : ℕ) : Type 0 where
   pub answers : e ≡ before + rank i
 
 abbrev pub Counts : Waiting → ℕ → Body → Type 0
-Counts Epoch e b = (e ≡ 0) × Idle b
-Counts (Forward i s) e b = (4 ≤ i) × (i ≤ 7) × (e ≡ 4 * i + stageNo s - 15) × Idle b
-Counts (Backward i s) e b = (1 ≤ i) × (i ≤ 4) × (e ≡ 33 + stageNo s - 4 * i) × Idle b
-Counts (Survey i) e b = Point i 33 e × Idle b
+Counts Epoch e b = (e ≡ 0) × IdleBody b
+Counts (Forward i s) e b = (4 ≤ i) × (i ≤ 7) × (e ≡ 4 * i + stageNo s - 15) × IdleBody b
+Counts (Backward i s) e b = (1 ≤ i) × (i ≤ 4) × (e ≡ 33 + stageNo s - 4 * i) × IdleBody b
+Counts (Survey i) e b = Point i 33 e × IdleBody b
 Counts (Pass i) e b = (b .«startup_iters» < b .plan .settings .«max_startup_iters») × (b .track .steps ≡ 0) × Point i (41 + 8 * b .«startup_iters») e
-Counts (Step c) e b = (c ≤ b .plan .settings .«max_corrector_iters») × (b .track .steps < b .plan .settings .«max_steps») × Stepping c e b
-Counts (Tail s) e b = (b .track .steps < b .plan .settings .«max_steps») × Stepping (stageNo s) e b
-Counts TailSample e b = (b .plan .settings .samples ≡ true) × (b .track .steps < b .plan .settings .«max_steps») × Stepping 4 e b
+Counts (Step c) e b = (c ≤ b .plan .settings .«max_corrector_iters») × (b .track .steps < b .plan .settings .«max_steps») × SteppingBody c e b
+Counts (Tail s) e b = (b .track .steps < b .plan .settings .«max_steps») × SteppingBody (stageNo s) e b
+Counts TailSample e b = (b .plan .settings .samples ≡ true) × (b .track .steps < b .plan .settings .«max_steps») × SteppingBody 4 e b
 Counts Ended e b = ⊥
 Counts Unknown e b = ⊥
 
 -- ---- from the tests to the facts
-to-idle : (b : Body) → idle b ≡ true → Idle b
+to-idle : (b : Body) → idle b ≡ true → IdleBody b
 unfolding idle
 to-idle b t = let h = both _ _ t in record { passes = eqb-true _ _ (h .0); steps = eqb-true _ _ (h .1) }
 
-pub to-started : (b : Body) → startedUp b ≡ true → Started b
+pub to-started : (b : Body) → startedUp b ≡ true → StartedBody b
 unfolding startedUp
 to-started b t =
     let h = both _ _ t in
@@ -84,7 +93,7 @@ to-started b t =
     go true e u = eqb-true _ _ u
     go false e u = apart e
 
-pub below : (k e : ℕ) (b : Body) → stepCounts k e b ≡ true → (b .track .steps < b .plan .settings .«max_steps») × Stepping k e b
+pub below : (k e : ℕ) (b : Body) → stepCounts k e b ≡ true → (b .track .steps < b .plan .settings .«max_steps») × SteppingBody k e b
 unfolding stepCounts
 below k e b t =
     let h = both _ _ t in
@@ -118,11 +127,11 @@ to-counts Ended e b t = apart t
 to-counts Unknown e b t = apart t
 
 -- ---- and back
-from-idle : (b : Body) → Idle b → idle b ≡ true
+from-idle : (b : Body) → IdleBody b → idle b ≡ true
 unfolding idle
 from-idle b h = simp (eq-eqb _ _ (h .passes), eq-eqb _ _ (h .steps))
 
-from-started : (b : Body) → Started b → startedUp b ≡ true
+from-started : (b : Body) → StartedBody b → startedUp b ≡ true
 unfolding startedUp
 from-started b h = rw (le-leb _ _ (h .most)) (go (eqb (b .«startup_iters») 0) refl)
   where
@@ -130,7 +139,7 @@ from-started b h = rw (le-leb _ _ (h .most)) (go (eqb (b .«startup_iters») 0) 
     go true e = eq-eqb _ _ (h .some (eqb-true _ _ e))
     go false e = refl
 
-from-below : (k e : ℕ) (b : Body) → b .track .steps < b .plan .settings .«max_steps» → Stepping k e b → stepCounts k e b ≡ true
+from-below : (k e : ℕ) (b : Body) → b .track .steps < b .plan .settings .«max_steps» → SteppingBody k e b → stepCounts k e b ≡ true
 unfolding stepCounts
 from-below k e b m h = rw (from-started b (h .started), le-leb _ _ (h .four), lt-ltb _ _ m, le-leb _ _ (h .lower), le-leb _ _ (h .upper))
 

@@ -1,12 +1,17 @@
--- 01, "Steps and tail": the tests that the steps turn on.
+-- 01, "Steps and tail": the tests that the steps turn on, and the newest point.
+use Prim.Native.Nat.{_+_}
 use mathlib.Core.Bool.{Bool, _&&_}
+use mathlib.Core.List.{List}
 use lib.Ieee.{Float, binary64, neg, add, sub, mul, div, lt}
 use Rattle.triple.specs.declared.Triple.{Triple}
 use Rattle.triple.specs.declared.State.{State}
 use Rattle.triple.specs.declared.Point.{Point}
 use Rattle.triple.specs.Arithmetic.{nought, minus}
 use Rattle.triple.specs.Size.{absolute, sizeOf}
-use Rattle.startup.specs.Passes.{tiny}
+use Rattle.sums.specs.Sums.{onSums}
+use Rattle.startup.specs.declared.Places.{Places}
+use Rattle.startup.specs.Points.{timeAt, stateAt}
+use Rattle.startup.specs.Passes.{tiny, lastSums}
 use Rattle.run.specs.declared.Plan.{Plan}
 use Rattle.run.specs.declared.Track.{Track}
 use Rattle.run.specs.Plan.{decimal, direction}
@@ -30,6 +35,25 @@ still tol before after = lt (div binary64 (sizeOf (minus after before)) (add bin
 unfoldable pub rests : Float → State → State → Bool
 rests tol before after = still tol (before .r) (after .r) && still tol (before .v) (after .v)
 
--- where the tail's RK4 step starts: the newest point
+-- ---- the newest point, k
+-- after the startup: "s and S are worked out again [..]; t = t0 + 4·h, steps = 4"; it is point 8
+unfoldable pub startTrack : Plan → Places → List Triple → Track
+startTrack p x a =
+    record { t = timeAt (p .t0) (p .h) 8; steps = 4; state = stateAt x 8; sums = lastSums (p .h) x a }
+
+-- a step on, to y with the acceleration b: "s = s + a_new, S = S', t = t + h, one step"
+unfoldable pub trackOn : Plan → Track → State → Triple → Track
+trackOn p k y b =
+    record { t = add binary64 (k .t) (p .h); steps = k .steps + 1; state = y; sums = onSums (k .sums) b }
+
+-- where a step that ends at y is asked: "ask at t + h"
+unfoldable pub stepPoint : Plan → Track → State → Point
+stepPoint p k y = record { t = add binary64 (k .t) (p .h); r = y .r; v = y .v }
+
+-- where the tail's RK4 step starts
 unfoldable pub tailPoint : Track → Point
 tailPoint k = record { t = k .t; r = k .state .r; v = k .state .v }
+
+-- where the tail ends: "with samples one more question at tf"
+unfoldable pub finalPoint : Plan → State → Point
+finalPoint p y = record { t = p .tf; r = y .r; v = y .v }

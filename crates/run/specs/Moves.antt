@@ -2,16 +2,16 @@
 use Prim.Native.Nat.{ℕ, _+_, _-_}
 use mathlib.Core.List.{List}
 use lib.ListN.{set}
-use lib.Ieee.{Float, binary64, neg, add}
+use lib.Ieee.{Float, neg}
 use Rattle.triple.specs.declared.Triple.{Triple}
 use Rattle.triple.specs.declared.State.{State}
 use Rattle.triple.specs.declared.Point.{Point}
 use Rattle.triple.specs.Arithmetic.{nought, zeros}
 use Rattle.triple.specs.Nine.{at, nineZeros, slide}
 use Rattle.rk4.specs.Rk4.{ending}
-use Rattle.sums.specs.Sums.{onSums, predictedState, fixedOf}
-use Rattle.startup.specs.Points.{timeAt, stateAt, firstPlaces, placed}
-use Rattle.startup.specs.Passes.{passPlaces, lastSums, widened, calm}
+use Rattle.sums.specs.Sums.{predictedState, fixedOf}
+use Rattle.startup.specs.Points.{firstPlaces, placed}
+use Rattle.startup.specs.Passes.{passPlaces, widened, calm}
 use Rattle.startup.specs.declared.Places.{Places}
 use Rattle.startup.specs.declared.Widest.{Widest}
 use Rattle.run.specs.declared.Plan.{Plan}
@@ -21,7 +21,7 @@ use Rattle.run.specs.declared.Body.{Body}
 use Rattle.run.specs.declared.Slopes.{Slopes}
 use Rattle.run.specs.declared.waiting.Stage.{Stage}
 use Rattle.run.specs.declared.waiting.Stage.the-variants.{First, Second, Third, Fourth}
-use Rattle.run.specs.Formulas.{remains, tailPoint}
+use Rattle.run.specs.Formulas.{remains, startTrack, trackOn, tailPoint}
 use Rattle.run.specs.Questions.{gridPoint}
 
 -- ---- a body with one part changed: there is no record update, so each is written once
@@ -94,16 +94,9 @@ renewed i b x = withWidest (withA b (set (b .a) i x)) (widened (b .widest) (at (
 unfoldable pub passMade : Body → Body
 passMade b = withPasses b (b .«startup_iters» + 1)
 
--- "After startup s and S are worked out again [..]; t = t0 + 4·h, steps = 4"
+-- the startup is done
 unfoldable pub launched : Body → Body
-launched b =
-    withTrack b
-    (record {
-      t = timeAt (b .plan .t0) (b .plan .h) 8;
-      steps = 4;
-      state = stateAt (b .places) 8;
-      sums = lastSums (b .plan .h) (b .places) (b .a);
-    })
+launched b = withTrack b (startTrack (b .plan) (b .places) (b .a))
 
 -- ---- a step: predicted, tried again by each pass, committed
 unfoldable pub predicted : Body → Body
@@ -114,14 +107,7 @@ tried b x = withTrial b (record { state = x; fixed = b .trial .fixed })
 
 -- "commit: slide, s = s + a_new, S = S', t = t + h, one step"
 unfoldable pub committed : Body → State → Triple → Body
-committed b x y =
-    withTrack (withA b (slide (b .a) y))
-    (record {
-      t = add binary64 (b .track .t) (b .plan .h);
-      steps = b .track .steps + 1;
-      state = x;
-      sums = onSums (b .track .sums) y;
-    })
+committed b y x = withTrack (withA b (slide (b .a) x)) (trackOn (b .plan) (b .track) y x)
 
 -- the end of the tail: "RK4 over rem"
 unfoldable pub tailEnd : Body → Triple → State

@@ -1,6 +1,6 @@
 -- What each waiting point asks: a time, a position and a velocity.
 use Prim.Native.Nat.{ℕ}
-use lib.Ieee.{Float, binary64, neg, add}
+use lib.Ieee.{Float, neg}
 use Rattle.triple.specs.declared.Point.{Point}
 use Rattle.triple.specs.Arithmetic.{nought, zeros}
 use Rattle.triple.specs.Nine.{at}
@@ -12,7 +12,7 @@ use Rattle.run.specs.declared.waiting.Stage.{Stage}
 use Rattle.run.specs.declared.waiting.Stage.the-variants.{First, Second, Third, Fourth}
 use Rattle.run.specs.declared.waiting.Waiting.{Waiting}
 use Rattle.run.specs.declared.waiting.Waiting.the-variants.{Epoch, Forward, Backward, Survey, Pass, Step, Tail, TailSample, Ended, Unknown}
-use Rattle.run.specs.Formulas.{remains, tailPoint}
+use Rattle.run.specs.Formulas.{remains, stepPoint, tailPoint, finalPoint}
 
 -- the four questions of an RK4 step from p over h
 unfoldable pub stageQuestion : Stage → Point → Float → Slopes → Point
@@ -29,13 +29,13 @@ gridPoint b i = pointAt (b .plan .t0) (b .plan .h) (b .places) i
 unfoldable pub epochPoint : Body → Point
 epochPoint b = record { t = b .plan .t0; r = at (b .places .r) 4; v = at (b .places .v) 4 }
 
--- a step's end: "ask at t + h"
+-- a step's end
 unfoldable pub endPoint : Body → Point
-endPoint b = record { t = add binary64 (b .track .t) (b .plan .h); r = b .trial .state .r; v = b .trial .state .v }
+endPoint b = stepPoint (b .plan) (b .track) (b .trial .state)
 
--- the tail's end: "with samples one more question at tf"
+-- the tail's end
 unfoldable pub lastPoint : Body → Point
-lastPoint b = record { t = b .plan .tf; r = b .trial .state .r; v = b .trial .state .v }
+lastPoint b = finalPoint (b .plan) (b .trial .state)
 
 unfoldable pub nowhere : Point
 nowhere = record { t = nought; r = zeros; v = zeros }

@@ -6,10 +6,13 @@ use lib.Dec.{leb}
 use lib.ListN.{length, set}
 use lib.Ieee.{Float}
 use Rattle.triple.specs.declared.Triple.{Triple}
+use Rattle.triple.specs.declared.State.{State}
 use Rattle.triple.specs.declared.Sample.{Sample}
 use Rattle.triple.specs.Nine.{at}
 use Rattle.startup.specs.Points.{timeAt}
-use Rattle.run.specs.declared.Body.{Body}
+use Rattle.startup.specs.declared.Places.{Places}
+use Rattle.run.specs.declared.Plan.{Plan}
+use Rattle.run.specs.declared.Track.{Track}
 
 -- samples n to n + m - 1 all fit in the buffer
 unfoldable pub fits : ℕ → ℕ → List Float → Bool
@@ -30,18 +33,17 @@ putAll n (s ∷ ss) out = putAll (n + 1) ss (put n s out)
 
 -- ---- what is stored, and when
 -- point i of the startup
-unfoldable pub gridSample : Body → ℕ → Sample
-gridSample b i =
-    record { t = timeAt (b .plan .t0) (b .plan .h) i; r = at (b .places .r) i; v = at (b .places .v) i; a = at (b .a) i }
+unfoldable pub pointSample : Plan → Places → List Triple → ℕ → Sample
+pointSample p x a i = record { t = timeAt (p .t0) (p .h) i; r = at (x .r) i; v = at (x .v) i; a = at a i }
 
 -- after the startup: "with samples, points 4 to 8 are stored"
-unfoldable pub startupSamples : Body → List Sample
-startupSamples b = gridSample b 4 ∷ gridSample b 5 ∷ gridSample b 6 ∷ gridSample b 7 ∷ gridSample b 8 ∷ []
+unfoldable pub startSamples : Plan → Places → List Triple → List Sample
+startSamples p x a = pointSample p x a 4 ∷ pointSample p x a 5 ∷ pointSample p x a 6 ∷ pointSample p x a 7 ∷ pointSample p x a 8 ∷ []
 
--- after a commit: the newest point
-unfoldable pub stepSample : Body → Sample
-stepSample b = record { t = b .track .t; r = b .track .state .r; v = b .track .state .v; a = at (b .a) 8 }
+-- after a commit: the newest point, with the newest acceleration
+unfoldable pub stepSample : Track → List Triple → Sample
+stepSample k a = record { t = k .t; r = k .state .r; v = k .state .v; a = at a 8 }
 
 -- after the tail, at tf
-unfoldable pub lastSample : Body → Triple → Sample
-lastSample b x = record { t = b .plan .tf; r = b .trial .state .r; v = b .trial .state .v; a = x }
+unfoldable pub finalSample : Plan → State → Triple → Sample
+finalSample p y b = record { t = p .tf; r = y .r; v = y .v; a = b }

@@ -1,7 +1,7 @@
 -- The waiting point: plain numbers in the run, a case everywhere else. (01: "each place that asks becomes a named waiting point of the run".)
-use Prim.Native.Nat.{ℕ, zero, suc}
+use Prim.Native.Nat.{ℕ, zero, suc, _+_}
 use mathlib.Core.Bool.{cond}
-use lib.Dec.{leb}
+use lib.Dec.{leb, eqb}
 use Rattle.run.specs.declared.Mark.{Mark}
 use Rattle.run.specs.declared.Count.{Count}
 use Rattle.run.specs.declared.waiting.Stage.{Stage}
@@ -76,3 +76,7 @@ waitingAt (suc (suc (suc (suc (suc (suc (suc (suc (suc n))))))))) i s = Unknown
 
 unfoldable pub waitingOf : Mark → Waiting
 waitingOf m = cond (leb (m .stage) 3) (waitingAt (m .at) (m .index) (stageFrom (m .stage))) Unknown
+
+-- the points other than the epoch are asked in order: after point 3 comes point 5
+unfoldable pub nextPoint : ℕ → ℕ
+nextPoint i = cond (eqb i 3) 5 (i + 1)

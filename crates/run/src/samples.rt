@@ -2,7 +2,7 @@
 ghost use mathlib.Core.Path.{_≡_};
 ghost use Prim.Native.Nat.{_+_, _*_, _≤_};
 ghost use lib.ListN.{length};
-ghost use Rattle.run.specs.Samples.{fits, put, putAll, gridSample, startupSamples, stepSample, lastSample};
+ghost use Rattle.run.specs.Samples.{fits, put, putAll, pointSample, startSamples, stepSample, finalSample};
 use crate::Body;
 use triple::Sample;
 use triple::Triple;
@@ -36,7 +36,7 @@ pub fn store(n: u64, s: Sample, out: &mut [f64])
 
 // Point i of the startup.
 fn grid_sample(b: Body, i: u8) -> Sample
-    ensures { λ s. ⌜ s ≡ gridSample b i ⌝ }
+    ensures { λ s. ⌜ s ≡ pointSample (b .plan) (b .places) (b .a) i ⌝ }
 {
     let a = b.a;
     let p = startup::point_at(b.plan.t0, b.plan.h, b.places, i);
@@ -53,7 +53,7 @@ fn grid_sample(b: Body, i: u8) -> Sample
 // Points 4 to 8 of the startup, as samples 0 to 4.
 pub fn store_startup(b: Body, out: &mut [f64])
     requires { ⌜ 50 ≤ length (now out) ⌝ }
-    ensures { λ _. ⌜ now (out .exit) ≡ putAll 0 (startupSamples b) (now (out .entry)) ⌝ }
+    ensures { λ _. ⌜ now (out .exit) ≡ putAll 0 (startSamples (b .plan) (b .places) (b .a)) (now (out .entry)) ⌝ }
 {
     store(0, grid_sample(b, 4), out);
     store(1, grid_sample(b, 5), out);
@@ -64,7 +64,7 @@ pub fn store_startup(b: Body, out: &mut [f64])
 
 // The newest point.
 pub fn step_sample(b: Body) -> Sample
-    ensures { λ s. ⌜ s ≡ stepSample b ⌝ }
+    ensures { λ s. ⌜ s ≡ stepSample (b .track) (b .a) ⌝ }
 {
     let window = b.a;
     let r = b.track.state.r;
@@ -79,7 +79,7 @@ pub fn step_sample(b: Body) -> Sample
 
 // The end of the tail, with its acceleration.
 pub fn last_sample(b: Body, a: Triple) -> Sample
-    ensures { λ s. ⌜ s ≡ lastSample b a ⌝ }
+    ensures { λ s. ⌜ s ≡ finalSample (b .plan) (b .trial .state) a ⌝ }
 {
     let r = b.trial.state.r;
     let v = b.trial.state.v;

@@ -1,6 +1,7 @@
 // The waiting point: plain numbers in the run, one of these cases everywhere else.
 ghost use mathlib.Core.Path.{_≡_};
-ghost use Rattle.run.specs.Waiting.{stageNo, atOf, indexOf, stageOf, markOf, stageFrom, waitingOf};
+ghost use Prim.Native.Nat.{_<_};
+ghost use Rattle.run.specs.Waiting.{stageNo, atOf, indexOf, stageOf, markOf, stageFrom, waitingOf, nextPoint};
 use crate::Count;
 use crate::Mark;
 
@@ -146,4 +147,12 @@ pub fn waits_at(m: Mark) -> Waiting
         8 => Waiting::TailSample,
         _ => Waiting::Unknown,
     }
+}
+
+// The point asked after point i: the epoch is passed over.
+pub fn point_after(i: u8) -> u8
+    requires { ⌜ i < 8 ⌝ }
+    ensures { λ n. ⌜ n ≡ nextPoint i ⌝ }
+{
+    if i == 3 { 5 } else { i + 1 }
 }

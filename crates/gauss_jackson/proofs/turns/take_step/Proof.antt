@@ -3,13 +3,14 @@ use mathlib.Core.Path.{refl, sym, _∙_}
 use native.Mathlib.Omega.{arith}
 use borrow.Author.Needs.{needs}
 use borrow.Author.Tests.{lt-ltb, le-ltb}
+use Rattle.run.specs.Formulas.{trackOn}
 use Rattle.run.specs.Moves.{committed}
 use Rattle.gauss_jackson.specs.Answers.{stepTaken}
 use Rattle.gauss_jackson.proofs.turns.take_step.Statement.{statement}
 use Rattle.gauss_jackson.proofs.turns.take_step.Tie as tie
 
 end-step-requires : tie.Need-end-step-requires
-unfolding committed
+unfolding committed trackOn
 end-step-requires c κs = rw (c .before .commit .ensures) (omega (arith, c .before .before .before .before .before .before .pre .1))
 
 returns : tie.Need-returns
@@ -17,7 +18,7 @@ unfolding stepTaken
 returns c = rw (le-ltb _ _ (c .before .before .before .before .before .if1 .taken), ← c .before .before .before .before .commit .ensures) (c .before .before .end-step .ensures)
 
 end-step-requires-2 : tie.Need-end-step-requires-2
-unfolding committed
+unfolding committed trackOn
 end-step-requires-2 c κs = rw (c .before .commit2 .ensures) (omega (arith, c .before .before .before .before .before .before .before .before .before .pre .1))
 
 returns-2 : tie.Need-returns-2

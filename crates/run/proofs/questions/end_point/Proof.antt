@@ -1,11 +1,12 @@
 -- `questions::end_point` is `endPoint`.
 use mathlib.Core.Path.{refl}
+use Rattle.run.specs.Formulas.{stepPoint}
 use Rattle.run.specs.Questions.{endPoint}
 use Rattle.run.proofs.questions.end_point.Statement.{statement}
 use Rattle.run.proofs.questions.end_point.Tie as tie
 
 returns : tie.Need-returns
-unfolding endPoint
+unfolding endPoint stepPoint
 returns c = refl
 
 pub end-point-spec : {M : Type 1} → statement M

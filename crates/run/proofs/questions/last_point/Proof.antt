@@ -1,11 +1,12 @@
 -- `questions::last_point` is `lastPoint`.
 use mathlib.Core.Path.{refl}
+use Rattle.run.specs.Formulas.{finalPoint}
 use Rattle.run.specs.Questions.{lastPoint}
 use Rattle.run.proofs.questions.last_point.Statement.{statement}
 use Rattle.run.proofs.questions.last_point.Tie as tie
 
 returns : tie.Need-returns
-unfolding lastPoint
+unfolding lastPoint finalPoint
 returns c = refl
 
 pub last-point-spec : {M : Type 1} → statement M

@@ -1,12 +1,12 @@
--- `samples::grid_sample` is `gridSample`.
+-- `samples::grid_sample` is `pointSample`.
 use borrow.Author.Needs.{needs}
-use Rattle.run.specs.Samples.{gridSample}
+use Rattle.run.specs.Samples.{pointSample}
 use Rattle.startup.specs.Points.{pointAt}
 use Rattle.run.proofs.samples.grid_sample.Statement.{statement}
 use Rattle.run.proofs.samples.grid_sample.Tie as tie
 
 returns : tie.Need-returns
-unfolding gridSample pointAt
+unfolding pointSample pointAt
 returns c = simp (c .element .ensures, c .before .before .before .point-at .ensures)
 
 pub grid-sample-spec : {M : Type 1} → statement M

@@ -1,11 +1,11 @@
--- `samples::last_sample` is `lastSample`.
+-- `samples::last_sample` is `finalSample`.
 use mathlib.Core.Path.{refl}
-use Rattle.run.specs.Samples.{lastSample}
+use Rattle.run.specs.Samples.{finalSample}
 use Rattle.run.proofs.samples.last_sample.Statement.{statement}
 use Rattle.run.proofs.samples.last_sample.Tie as tie
 
 returns : tie.Need-returns
-unfolding lastSample
+unfolding finalSample
 returns c = refl
 
 pub last-sample-spec : {M : Type 1} → statement M

@@ -2,7 +2,7 @@
 use native.Mathlib.Omega.{arith}
 use borrow.Author.Needs.{needs}
 use Rattle.run.specs.Moves.{kept}
-use Rattle.run.specs.Samples.{putAll, startupSamples}
+use Rattle.run.specs.Samples.{putAll, startSamples}
 use Rattle.run.proofs.samples.store_startup.Statement.{statement}
 use Rattle.run.proofs.samples.store_startup.Tie as tie
 
@@ -16,7 +16,7 @@ same-length : tie.Need-same-length
 same-length c = omega (arith, c .before .before .before .before .before .before .before .before .before .before .before .before .before .before .before .before .before .before .before .before .before .before .store .kept, c .before .before .before .before .before .before .before .before .before .before .before .before .before .before .before .before .before .store2 .kept, c .before .before .before .before .before .before .before .before .before .before .before .before .store3 .kept, c .before .before .before .before .before .before .before .store4 .kept, c .before .before .store5 .kept)
 
 returns : tie.Need-returns
-unfolding putAll startupSamples
+unfolding putAll startSamples
 returns c = rw (c .before .before .store5 .ensures, c .before .before .before .before .before .before .before .store4 .ensures, c .before .before .before .before .before .before .before .before .before .before .before .before .store3 .ensures, c .before .before .before .before .before .before .before .before .before .before .before .before .before .before .before .before .before .store2 .ensures, c .before .before .before .before .before .before .before .before .before .before .before .before .before .before .before .before .before .before .before .before .before .before .store .ensures, c .before .before .before .before .grid-sample5 .ensures, c .before .before .before .before .before .before .before .before .before .grid-sample4 .ensures, c .before .before .before .before .before .before .before .before .before .before .before .before .before .before .grid-sample3 .ensures, c .before .before .before .before .before .before .before .before .before .before .before .before .before .before .before .before .before .before .before .grid-sample2 .ensures, c .before .before .before .before .before .before .before .before .before .before .before .before .before .before .before .before .before .before .before .before .before .before .before .before .grid-sample .ensures)
 
 pub store-startup-spec : {M : Type 1} → statement M
