@@ -65,11 +65,11 @@ unfoldable pub ending : Outcome → Answered
 ending o = record { run = endedRun; outcome = o }
 
 -- ---- a question is open
-unfoldable pub asks : Waiting → Count → Body → Outcome
-asks w c b = let q = question w b in Ask (record { number = c .number; t = q .t; r = q .r; v = q .v })
+unfoldable pub questionOf : Waiting → Count → Body → Outcome
+questionOf w c b = let q = question w b in Ask (record { number = c .number; t = q .t; r = q .r; v = q .v })
 
 unfoldable pub asking : Waiting → Count → Body → Answered
-asking w c b = record { run = record { mark = markOf w c; body = b }; outcome = asks w c b }
+asking w c b = record { run = record { mark = markOf w c; body = b }; outcome = questionOf w c b }
 
 -- ---- the finished state
 unfoldable pub solution : Float → State → Count → ℕ → Body → Outcome
@@ -201,4 +201,4 @@ started s t0 tf r0 v0 =
 
 -- the open question, told again
 unfoldable pub openQuestion : Run → Outcome
-openQuestion run = cond (soundOf run) (asks (waitingOf (run .mark)) (run .mark .count) (run .body)) (Refused NoQuestion)
+openQuestion run = cond (soundOf run) (questionOf (waitingOf (run .mark)) (run .mark .count) (run .body)) (Refused NoQuestion)

@@ -3,7 +3,7 @@ ghost use mathlib.Core.Path.{_≡_};
 ghost use Prim.Native.Nat.{_<_, _≤_};
 ghost use Rattle.run.specs.Moves.{freshBody};
 ghost use Rattle.run.specs.Counting.{Ready};
-ghost use Rattle.gauss_jackson.specs.Answers.{counted, noPlan, endedRun, ending, asks, asking, solution, onward, startupEnded, stepEnded, passesOn, passEnded, forwardTaken, backwardTaken, surveyTaken, passTaken, stepTaken, tailTaken, lastTaken, answeredAt};
+ghost use Rattle.gauss_jackson.specs.Answers.{counted, noPlan, endedRun, ending, questionOf, asking, solution, onward, startupEnded, stepEnded, passesOn, passEnded, forwardTaken, backwardTaken, surveyTaken, passTaken, stepTaken, tailTaken, lastTaken, answeredAt};
 use crate::Answered;
 use crate::Outcome;
 use crate::Question;
@@ -78,7 +78,7 @@ pub fn end(outcome: Outcome) -> Answered
 }
 
 pub fn question_of(w: Waiting, count: Count, body: Body) -> Outcome
-    ensures { λ o. ⌜ o ≡ asks w count body ⌝ }
+    ensures { λ o. ⌜ o ≡ questionOf w count body ⌝ }
 {
     let q = questions::question_at(w, body);
     let r = q.r;

@@ -1,11 +1,11 @@
--- `turns::question_of` is `asks`.
+-- `turns::question_of` is `questionOf`.
 use borrow.Author.Needs.{needs}
-use Rattle.gauss_jackson.specs.Answers.{asks}
+use Rattle.gauss_jackson.specs.Answers.{questionOf}
 use Rattle.gauss_jackson.proofs.turns.question_of.Statement.{statement}
 use Rattle.gauss_jackson.proofs.turns.question_of.Tie as tie
 
 returns : tie.Need-returns
-unfolding asks
+unfolding questionOf
 returns c = simp (c .before .before .question-at .ensures)
 
 pub question-of-spec : {M : Type 1} → statement M

@@ -1,0 +1,26 @@
+-- Demand 2 as one statement: any line of calls from `start` is told, and leaves in its buffers, what the rules give.
+-- The proof is `follows-the-rules` in proofs/Follows.antt; the contracts of `start` and `answer` are equations with `started` and `answered`.
+use mathlib.Core.Path.{_≡_}
+use Prim.Native.Nat.{ℕ}
+use mathlib.Core.List.{List, [], _∷_}
+use lib.Ieee.{Float}
+use Rattle.triple.specs.declared.Triple.{Triple}
+use Rattle.run.specs.declared.Settings.{Settings}
+use Rattle.run.specs.declared.Run.{Run}
+use Rattle.gauss_jackson.specs.Answers.{Turn, answered, started}
+use Rattle.rules.specs.Walk.{Said, told, Call, Result, Stop, walk, begin}
+
+-- what the caller has of one call of `answer`
+abbrev pub heard : Turn → Result
+heard t = record { said = told (t .got .outcome); out = t .out }
+
+-- calls one after the other, each on the run that the one before left
+unfoldable pub played : Run → List Call → List Result
+played run [] = []
+played run (c ∷ cs) =
+    heard (answered run (c .number) (c .a) (c .out)) ∷ played (answered run (c .number) (c .a) (c .out) .got .run) cs
+
+-- for every start and every list of calls, refused ones among them
+pub record FollowsTheRules (s : Settings) (t0 tf : Float) (r0 v0 : Triple) (cs : List Call) : Type 0 where
+  pub first : told (started s t0 tf r0 v0 .outcome) ≡ begin s t0 tf r0 v0 .said
+  pub then : played (started s t0 tf r0 v0 .run) cs ≡ walk (begin s t0 tf r0 v0 .line) cs
