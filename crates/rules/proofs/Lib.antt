@@ -1,2 +1,4 @@
 pub mod Rest
 pub mod Loops
+pub mod Bridge
+pub mod Follows

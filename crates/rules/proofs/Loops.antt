@@ -22,13 +22,13 @@ use Rattle.run.specs.declared.Plan.{Plan}
 use Rattle.run.specs.declared.Track.{Track}
 use Rattle.run.specs.declared.Body.{Body}
 use Rattle.run.specs.declared.waiting.Stage.the-variants.{First}
-use Rattle.run.specs.declared.waiting.Waiting.the-variants.{Forward, Backward, Step, Tail}
+use Rattle.run.specs.declared.waiting.Waiting.the-variants.{Forward, Backward, Survey, Pass, Step, Tail}
 use Rattle.run.specs.Formulas.{goesOn, isShort, rests, trackOn, stepPoint}
 use Rattle.run.specs.Waiting.{nextPoint}
 use Rattle.run.specs.Questions.{stageQuestion, gridPoint, endPoint, question}
-use Rattle.run.specs.Moves.{slopesWith, kept, stepEnd, movedOn, movedBack, predicted, committed, tailEnd}
+use Rattle.run.specs.Moves.{slopesWith, kept, stepEnd, movedOn, movedBack, predicted, committed, tailEnd, renewed, surveyed}
 use Rattle.run.specs.Samples.{stepSample}
-use Rattle.rules.specs.Rules.{Course, asks, ends, exceeds, rk4, forward, backward, others, renew, passes, sampled, tail, correct, step, march}
+use Rattle.rules.specs.Rules.{Course, asks, ends, exceeds, rk4, forward, backward, others, renew, passes, sampled, tail, correct, step, march, survey}
 use Rattle.rules.proofs.Rest.{sweeping, looking, turning, ahead, behind, seeing, passed, renewing, loop, due, landing, last, tailed, later, after3, after2, after1, stage, next, restAt}
 
 -- ---- the RK4 steps of the startup
@@ -149,3 +149,11 @@ step-is b =
     ap (λ (m : ℕ). asks (stepPoint (b .plan) (b .track) (predictedState (b .plan .h) (b .track .sums) (b .a))) (λ (c : Triple).
     correct m (b .plan) (b .track) (fixedOf (b .a)) (predictedState (b .plan .h) (b .track .sums) (b .a)) c (landing (predicted b))))
     (sym (sub-zero (b .plan .settings .«max_corrector_iters»)))
+
+pub seeing-is : (i : ℕ) (b : Body) → seeing (i ∷ later i) b ≡ restAt (Survey i) b
+unfolding survey restAt question next gridPoint surveyed
+seeing-is i b = refl
+
+pub renewing-is : (i : ℕ) (b : Body) → renewing (i ∷ later i) b ≡ restAt (Pass i) b
+unfolding renew restAt question next gridPoint renewed
+renewing-is i b = refl

@@ -1,0 +1,81 @@
+-- Any line of calls follows the rules.
+use mathlib.Core.Path.{_≡_, refl, ap, _∙_}
+use Prim.Native.Nat.{ℕ}
+use native.Mathlib.Nat.{sub-zero}
+use mathlib.Core.Bool.{Bool, true, false, cond}
+use mathlib.Core.List.{List, [], _∷_}
+use lib.ListN.{set}
+use lib.Ieee.{Float}
+use Rattle.triple.specs.declared.Triple.{Triple}
+use Rattle.triple.specs.Nine.{at, nineZeros}
+use Rattle.refusals.specs.declared.Refusal.the-variants.{StepNotFinite, Setting}
+use Rattle.startup.specs.declared.Places.{Places}
+use Rattle.startup.specs.Points.{firstPlaces}
+use Rattle.run.specs.declared.Settings.{Settings}
+use Rattle.run.specs.declared.Plan.{Plan}
+use Rattle.run.specs.declared.Run.{Run}
+use Rattle.run.specs.declared.waiting.Waiting.the-variants.{Epoch}
+use Rattle.run.specs.Plan.{withinLimits, planOf, tooNear}
+use Rattle.run.specs.Questions.{epochPoint, question}
+use Rattle.run.specs.Moves.{freshBody, surveyed}
+use Rattle.gauss_jackson.specs.declared.Answered.{Answered}
+use Rattle.gauss_jackson.specs.declared.Outcome.the-variants.{Refused}
+use Rattle.gauss_jackson.specs.Answers.{ending, asking, answered, started}
+use Rattle.rules.specs.Rules.{Course, asks, forward, backward, others, survey, passes, fly, integrate}
+use Rattle.rules.specs.Walk.{refused, told, Call, Result, over, Stop, settle, walk, begin}
+use Rattle.rules.specs.Follows.{heard, played, FollowsTheRules}
+use Rattle.rules.proofs.Rest.{next, restAt, rest, lineOf, seen}
+use Rattle.rules.proofs.Bridge.{asked-is, ended-is, call-is}
+
+-- from any run at all
+follows : (cs : List Call) (run : Run) → played run cs ≡ walk (lineOf run) cs
+unfolding played walk seen
+follows [] run = refl
+follows (k ∷ cs) run =
+    ap (λ (l : List Result). heard (answered run (k .number) (k .a) (k .out)) ∷ l) (follows cs (answered run (k .number) (k .a) (k .out) .got .run))
+    ∙ ap (λ (s : Stop). record { said = s .said; out = s .out } ∷ walk (s .line) cs) (call-is run k)
+
+-- the rest of a started run is the whole integration
+started-is : (p : Plan) (r0 v0 : Triple) → restAt Epoch (freshBody p r0 v0) ≡ integrate p r0 v0
+unfolding restAt question epochPoint next surveyed freshBody integrate firstPlaces nineZeros
+started-is p r0 v0 =
+    ap (λ (m : ℕ). asks (record { t = p .t0; r = r0; v = v0 }) (λ (b : Triple).
+    forward 4 4 p (firstPlaces r0 v0) (λ (x : Places).
+    backward 4 p x (λ (y : Places).
+    survey others p y (set nineZeros 4 b) (λ (a : List Triple).
+    passes m 0 p y a (fly p)))))) (sub-zero (p .settings .«max_startup_iters»))
+
+-- what is seen of a start
+begun : Answered → Stop
+begun x = record { said = told (x .outcome); out = []; line = lineOf (x .run) }
+
+begins : (s : Settings) (t0 tf : Float) (r0 v0 : Triple) → begun (started s t0 tf r0 v0) ≡ begin s t0 tf r0 v0
+unfolding begun started begin freshBody planOf seen told
+begins s t0 tf r0 v0 = go (withinLimits s) (tooNear (planOf s t0 tf)) refl
+  where
+    asked : withinLimits s ≡ true → begun (asking Epoch (record { number = 0; evals = 0 }) (freshBody (planOf s t0 tf) r0 v0)) ≡ settle (integrate (planOf s t0 tf) r0 v0) 0 0 []
+    asked e =
+        asked-is Epoch (record { number = 0; evals = 0 }) (freshBody (planOf s t0 tf) r0 v0) [] e refl (refl, record { passes = refl; steps = refl })
+        ∙ ap (λ (t : Course). settle t 0 0 []) (started-is (planOf s t0 tf) r0 v0)
+
+    go : (d t : Bool) → withinLimits s ≡ d
+        → begun
+        (cond d
+        (cond t (ending (Refused StepNotFinite)) (asking Epoch (record { number = 0; evals = 0 }) (freshBody (planOf s t0 tf) r0 v0)))
+        (ending (Refused Setting)))
+        ≡ cond d
+        (cond t (record { said = refused 1; out = []; line = over }) (settle (integrate (planOf s t0 tf) r0 v0) 0 0 []))
+        (record { said = refused 5; out = []; line = over })
+    go true true e = ended-is (Refused StepNotFinite) []
+    go true false e = asked e
+    go false true e = ended-is (Refused Setting) []
+    go false false e = ended-is (Refused Setting) []
+
+-- demand 2
+pub follows-the-rules : (s : Settings) (t0 tf : Float) (r0 v0 : Triple) (cs : List Call) → FollowsTheRules s t0 tf r0 v0 cs
+unfolding begun
+follows-the-rules s t0 tf r0 v0 cs =
+    record {
+      first = ap (λ (x : Stop). x .said) (begins s t0 tf r0 v0);
+      then = follows cs (started s t0 tf r0 v0 .run) ∙ ap (λ (x : Stop). walk (x .line) cs) (begins s t0 tf r0 v0);
+    }
