@@ -46,10 +46,10 @@ started-is p r0 v0 =
     passes m 0 p y a (fly p)))))) (sub-zero (p .settings .«max_startup_iters»))
 
 -- what is seen of a start
-begun : Answered → Stop
+unfoldable pub begun : Answered → Stop
 begun x = record { said = told (x .outcome); out = []; line = lineOf (x .run) }
 
-begins : (s : Settings) (t0 tf : Float) (r0 v0 : Triple) → begun (started s t0 tf r0 v0) ≡ begin s t0 tf r0 v0
+pub begins : (s : Settings) (t0 tf : Float) (r0 v0 : Triple) → begun (started s t0 tf r0 v0) ≡ begin s t0 tf r0 v0
 unfolding begun started begin freshBody planOf seen told
 begins s t0 tf r0 v0 = go (withinLimits s) (tooNear (planOf s t0 tf)) refl
   where

@@ -2,11 +2,15 @@
 -- The proof is `follows-the-rules` in proofs/Follows.antt; the contracts of `start` and `answer` are equations with `started` and `answered`.
 use mathlib.Core.Path.{_≡_}
 use Prim.Native.Nat.{ℕ}
+use mathlib.Core.Bool.{true}
 use mathlib.Core.List.{List, [], _∷_}
 use lib.Ieee.{Float}
 use Rattle.triple.specs.declared.Triple.{Triple}
 use Rattle.run.specs.declared.Settings.{Settings}
 use Rattle.run.specs.declared.Run.{Run}
+use Rattle.run.specs.Counting.{soundOf}
+use Rattle.gauss_jackson.specs.declared.Question.{Question}
+use Rattle.gauss_jackson.specs.declared.Outcome.the-variants.{Ask}
 use Rattle.gauss_jackson.specs.Answers.{Turn, answered, started}
 use Rattle.rules.specs.Walk.{Said, told, Call, Result, Stop, walk, begin}
 
@@ -24,3 +28,10 @@ played run (c ∷ cs) =
 pub record FollowsTheRules (s : Settings) (t0 tf : Float) (r0 v0 : Triple) (cs : List Call) : Type 0 where
   pub first : told (started s t0 tf r0 v0 .outcome) ≡ begin s t0 tf r0 v0 .said
   pub then : played (started s t0 tf r0 v0 .run) cs ≡ walk (begin s t0 tf r0 v0 .line) cs
+
+-- where a call asks, the run that it gives is one that answer 7 does not refuse: a line from `start` never meets 7 while a question is open
+pub record NeverSeven : Type 0 where
+  pub after-start : (s : Settings) (t0 tf : Float) (r0 v0 : Triple) (q : Question) → started s t0 tf r0 v0 .outcome ≡ Ask q → soundOf (started s t0 tf r0 v0 .run) ≡ true
+  pub after-answer : (run : Run) (c : Call) (q : Question)
+      → answered run (c .number) (c .a) (c .out) .got .outcome ≡ Ask q
+      → soundOf (answered run (c .number) (c .a) (c .out) .got .run) ≡ true
