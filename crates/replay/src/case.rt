@@ -70,10 +70,8 @@ fn three(line: &[u8], c: Cursor) -> GotTriple {
         y: bits::float_of(y.value),
         z: bits::float_of(z.value),
     };
-    GotTriple {
-        value,
-        cursor: z.cursor,
-    }
+    let cursor = z.cursor;
+    GotTriple { value, cursor }
 }
 
 // The case behind the name; `ok` is false where a word is missing, left over or misshapen.
@@ -104,13 +102,16 @@ pub fn read(line: &[u8], at: usize) -> Case {
         max_steps: max_steps.value,
         samples: samples.value == 1,
     };
+    let position = r0.value;
+    let velocity = v0.value;
+    let force = read.force;
     Case {
         ok: read.ok,
         settings,
         t0: bits::float_of(t0.value),
         tf: bits::float_of(tf.value),
-        r0: r0.value,
-        v0: v0.value,
-        force: read.force,
+        r0: position,
+        v0: velocity,
+        force,
     }
 }

@@ -20,26 +20,43 @@ pub struct Place {
     pub held: usize,
 }
 
+// After a piece of the input: whether there may be more.
+pub struct Reading {
+    pub place: Place,
+    pub going: bool,
+}
+
+// One piece of the input.
+fn read_piece(place: Place, line: &mut [u8], samples: &mut [f64]) -> Reading {
+    let mut piece = io::buffer();
+    let got = libc::read(0, &mut piece);
+    let n = io::count(got, &piece);
+    if n == 0 {
+        return Reading {
+            place,
+            going: false,
+        };
+    }
+    let next = line::take(&piece[..n], place, line, samples);
+    Reading {
+        place: next,
+        going: true,
+    }
+}
+
 fn main() {
     let mut line = [0u8; LONGEST];
     let mut samples = [0.0f64; ROOM];
-    let mut place = Place {
+    let place = Place {
         number: 1,
         length: 0,
         held: 0,
     };
+    let mut now = Reading { place, going: true };
     let mut turns: u64 = 0;
-    let mut going = true;
-    while going && turns < 0x1000_0000_0000 {
-        let mut piece = io::buffer();
-        let got = libc::read(0, &mut piece);
-        let n = io::count(got, &piece);
-        if n == 0 {
-            going = false;
-        } else {
-            place = line::take(&piece[..n], place, &mut line, &mut samples);
-        }
+    while now.going && turns < 0x1000_0000_0000 {
+        now = read_piece(now.place, &mut line, &mut samples);
         turns += 1;
     }
-    line::finish(place, &line, &mut samples);
+    line::finish(now.place, &line, &mut samples);
 }

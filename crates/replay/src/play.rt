@@ -45,12 +45,13 @@ fn print_samples(held: usize, samples: &[f64]) {
 
 // Plays a case, and says how many numbers of samples it leaves.
 pub fn play(case: Case, samples: &mut [f64]) -> usize {
-    let now = gauss_jackson::start(case.settings, case.t0, case.tf, case.r0, case.v0);
+    let first = gauss_jackson::start(case.settings, case.t0, case.tf, case.r0, case.v0);
     let force = case.force;
-    let mut playing = Playing { now, force };
+    let mut playing = Playing { now: first, force };
     let mut turns: u64 = 0;
     while turns < 0x1000_0000_0000 {
-        let outcome = playing.now.outcome;
+        let now = playing.now;
+        let outcome = now.outcome;
         match outcome {
             Outcome::Ask(q) => {
                 playing = play_on(q, playing, samples);

@@ -1,4 +1,5 @@
 // Words apart by blanks, and the numbers in them.
+ghost use Prim.Native.Nat.{_<_, _^_};
 
 // From start to before end; empty where there is no word left.
 pub struct Word {
@@ -92,31 +93,48 @@ fn hex_digit(b: u8) -> u64 {
     16
 }
 
+// One digit more; the base is 16, 10 or else 2.
+fn with_digit(value: u64, base: u64, d: u64) -> u64
+    requires { ⌜ (value < 2 ^ 60) × (d < 16) ⌝ }
+{
+    if base == 16 {
+        return value * 16 + d;
+    }
+    if base == 10 {
+        return value * 10 + d;
+    }
+    value * 2 + d
+}
+
 // A word of digits below `base`, from `least` to `most` of them.
 fn digits(line: &[u8], w: Word, base: u64, least: usize, most: usize) -> Number {
     let mut i = w.start;
-    if w.end > line.len() {
+    let end = w.end;
+    if end > line.len() {
         return Number::Bad;
     }
-    if i > w.end {
+    if i > end {
         return Number::Bad;
     }
-    if w.end - i < least {
+    if end - i < least {
         return Number::Bad;
     }
-    if w.end - i > most {
+    if end - i > most {
         return Number::Bad;
     }
     let mut value: u64 = 0;
-    while i < w.end {
+    while i < end {
         let d = hex_digit(line[i]);
         if d >= base {
+            return Number::Bad;
+        }
+        if d > 15 {
             return Number::Bad;
         }
         if value > 0x0fff_ffff_ffff_ffff {
             return Number::Bad;
         }
-        value = value * base + d;
+        value = with_digit(value, base, d);
         i += 1;
     }
     Number::Is(value)
