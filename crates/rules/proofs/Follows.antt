@@ -25,7 +25,8 @@ use Rattle.rules.specs.Rules.{Course, asks, forward, backward, others, s
 use Rattle.rules.specs.Walk.{refused, told, Call, Result, over, Stop, settle, walk, begin}
 use Rattle.rules.specs.Follows.{heard, played, FollowsTheRules}
 use Rattle.rules.proofs.Rest.{next, restAt, rest, lineOf, seen}
-use Rattle.rules.proofs.Bridge.{asked-is, ended-is, call-is}
+use Rattle.rules.proofs.Bridge.{asked-is, ended-is}
+use Rattle.rules.proofs.Calls.{call-is}
 
 -- from any run at all
 follows : (cs : List Call) (run : Run) → played run cs ≡ walk (lineOf run) cs

@@ -18,7 +18,7 @@ use Rattle.rules.specs.Walk.{Said, refused, finished, told, Call, Line, 
 use Rattle.rules.specs.Walk.{question as questionSaid}
 use Rattle.rules.specs.Follows.{NeverSeven}
 use Rattle.rules.proofs.Rest.{rest, opened, lineOf, seen}
-use Rattle.rules.proofs.Bridge.{call-is}
+use Rattle.rules.proofs.Calls.{call-is}
 use Rattle.rules.proofs.Follows.{begun, begins}
 
 isOpen : Line → Bool
