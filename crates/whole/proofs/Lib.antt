@@ -1,0 +1,6 @@
+pub mod Scale
+pub mod Values
+pub mod Exact
+pub mod Quotient
+pub mod Short
+pub mod Integers
