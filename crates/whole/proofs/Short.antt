@@ -42,12 +42,12 @@ mul-by f s c e (fin v n d) t b k =
     ∙ round-same f (unlike s t) (c * up e * (b * down d)) (down e * down d) (c * up e * b) (down e) (mul-pos (down-pos e) (down-pos d)) (down-pos e) (omega arith)
 
 -- `round f false` is not negative and no NaN
-abbrev Clear : Float → Type 0
+abbrev pub Clear : Float → Type 0
 Clear nan = ⊥
 Clear (inf s) = T (not s)
 Clear (fin s m e) = T (not s)
 
-round-clear : (f : Format) (a c : ℕ) → Clear (round f false a c)
+pub round-clear : (f : Format) (a c : ℕ) → Clear (round f false a c)
 round-clear f a c =
     let n = a * 2 ^ low f in
     let k = size (n / c) - prec f in

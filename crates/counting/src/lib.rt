@@ -1,0 +1,1 @@
+// Demand 3: how many steps and answers a run takes is known beforehand (specs/), and proved for every acceleration (proofs/). No code.
