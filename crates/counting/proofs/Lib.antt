@@ -1,3 +1,9 @@
 pub mod Signs
 pub mod Startup
 pub mod Marching
+pub mod Spans
+pub mod Fates
+pub mod Wholes
+pub mod Claims
+pub mod Tallies
+pub mod OnTime

@@ -1,18 +1,16 @@
 -- Along every path of the steps and the tail: the clock alone decides.
 use mathlib.Core.Path.{_≡_, refl, sym, ap, _∙_, subst}
-use Prim.Native.Nat.{ℕ, zero, suc, _+_, _-_, _*_, _≤_, _<_}
+use Prim.Native.Nat.{ℕ, zero, suc, _+_, _-_, _*_, _≤_}
 use native.Mathlib.Numerals.{add-one}
 use native.Mathlib.Omega.{arith}
 use mathlib.Core.Bool.{Bool, true, false, cond, true≢false}
 use mathlib.Core.List.{List, [], _∷_}
-use lib.Dec.{eqb, ltb}
-use lib.ListN.{length}
 use lib.Ieee.{Float, binary64, add}
 use borrow.Author.Tests.{le-ltb, eq-eqb, ne-eqb}
 use Rattle.triple.specs.declared.Triple.{Triple}
 use Rattle.triple.specs.declared.State.{State}
 use Rattle.triple.specs.declared.Sample.{Sample}
-use Rattle.triple.specs.Nine.{at, slide}
+use Rattle.triple.specs.Nine.{slide}
 use Rattle.sums.specs.declared.Fixed.{Fixed}
 use Rattle.sums.specs.Sums.{predictedState, fixedOf, correctedState}
 use Rattle.startup.specs.declared.Places.{Places}
@@ -21,7 +19,7 @@ use Rattle.run.specs.declared.Plan.{Plan}
 use Rattle.run.specs.declared.Track.{Track}
 use Rattle.run.specs.Formulas.{remains, goesOn, isShort, rests, startTrack, trackOn, tailPoint}
 use Rattle.run.specs.Samples.{pointSample, startSamples, stepSample, finalSample}
-use Rattle.rules.specs.Rules.{Course, asks, stores, ends, exceeds, sampled, tail, correct, step, march, fly, integrate}
+use Rattle.rules.specs.Rules.{Course, stores, ends, exceeds, sampled, tail, correct, step, march, fly}
 use Rattle.rules.specs.Asked.{clock}
 use Rattle.counting.specs.Paths.{Claims, Each, Always}
 use Rattle.counting.specs.Clockwork.{Fate, arrives, tails, runs-out, fateFrom, fateOf, stepsOf, plainSteps, tailAnswers, least, most, fewestStartups, NeverStops, Counted, gridTime, sampleTime, Ended, RunsOut, clockwork, ByTheClock}

@@ -1,14 +1,13 @@
 -- A size, a sum of sizes and a quotient of sizes are never negative: so a tolerance of zero or less stops nothing.
-use mathlib.Core.Path.{_≡_, refl, sym, ap, _∙_, subst}
-use Prim.Native.Nat.{ℕ, zero, suc, _+_, _*_, _^_, _≤_, _<_}
+use mathlib.Core.Path.{_≡_, refl, sym, ap, subst}
+use Prim.Native.Nat.{ℕ, _+_, _*_, _^_, _≤_, _<_}
 use native.Mathlib.Nat.{zero-mul}
 use native.Mathlib.Omega.{arith}
 use mathlib.Core.Bool.{Bool, true, false, not, _&&_, _||_, cond, false≢true}
 use mathlib.Core.List.{List}
-use lib.IntN.{pos}
 use lib.Dec.{T, ltb, eqb, eqb→eq, ltb→lt}
 use lib.Arith.{le→nltb}
-use lib.Ieee.{Float, nan, inf, fin, Format, binary64, up, down, round, sum, add, sub, div, lt, le, eq, isNan}
+use lib.Ieee.{Float, nan, inf, fin, binary64, up, down, round, sum, add, div, lt, le, eq, isNan}
 use lib.Ieee.Bits.{is-false}
 use Rattle.triple.specs.declared.Triple.{Triple}
 use Rattle.triple.specs.declared.State.{State}

@@ -1,6 +1,6 @@
 -- Along every path of the startup: the answers that each part takes, and the passes.
-use mathlib.Core.Path.{_≡_, refl, sym, ap, _∙_, subst}
-use Prim.Native.Nat.{ℕ, zero, suc, _+_, _-_, _*_, _≤_, _<_}
+use mathlib.Core.Path.{_≡_, refl, sym, _∙_, subst}
+use Prim.Native.Nat.{ℕ, zero, suc, _+_, _*_, _≤_}
 use native.Mathlib.Omega.{arith}
 use mathlib.Core.Bool.{Bool, true, false, cond, true≢false}
 use mathlib.Core.List.{List, [], _∷_}
@@ -18,7 +18,7 @@ use Rattle.startup.specs.declared.Widest.{Widest}
 use Rattle.startup.specs.Points.{pointAt, placed, firstPlaces}
 use Rattle.startup.specs.Passes.{passPlaces, widened, calm, settled}
 use Rattle.run.specs.declared.Plan.{Plan}
-use Rattle.rules.specs.Rules.{Course, asks, rk4, forward, backward, others, survey, renew, passes, integrate, fly}
+use Rattle.rules.specs.Rules.{Course, rk4, forward, backward, others, survey, renew, passes, integrate, fly}
 use Rattle.counting.specs.Paths.{Claims, Always}
 use Rattle.counting.specs.Clockwork.{fewestStartups, NeverStops}
 use Rattle.counting.proofs.Signs.{PlainWidest, plain-widened, plain-calm, startup-goes-on}

@@ -2,7 +2,7 @@
 -- single acceleration; and the answers are counted by 01's "Counting beforehand". For any numbers, whole or not. The proof is `by-the-clock`.
 use mathlib.Core.Path.{_≡_}
 use Prim.Native.Nat.{ℕ, zero, suc, _+_, _-_, _*_, _≤_}
-use mathlib.Core.Bool.{Bool, true, false, cond}
+use mathlib.Core.Bool.{true, cond}
 use lib.Dec.{eqb, ltb}
 use lib.Ieee.{Float, binary64, add, le}
 use Rattle.triple.specs.declared.Triple.{Triple}

@@ -4,3 +4,4 @@ pub mod Exact
 pub mod Quotient
 pub mod Short
 pub mod Integers
+pub mod Along
