@@ -1,5 +1,6 @@
 pub mod Signs
 pub mod Startup
+pub mod Heads
 pub mod Marching
 pub mod Spans
 pub mod Fates

@@ -1,12 +1,12 @@
 -- Along every path of the steps and the tail: the clock alone decides.
 use mathlib.Core.Path.{_≡_, refl, sym, ap, _∙_, subst}
-use Prim.Native.Nat.{ℕ, zero, suc, _+_, _-_, _*_, _≤_}
+use Prim.Native.Nat.{ℕ, zero, suc, _+_, _-_, _≤_}
 use native.Mathlib.Numerals.{add-one}
 use native.Mathlib.Omega.{arith}
 use mathlib.Core.Bool.{Bool, true, false, cond, true≢false}
 use mathlib.Core.List.{List, [], _∷_}
 use lib.Ieee.{Float, binary64, add}
-use borrow.Author.Tests.{le-ltb, eq-eqb, ne-eqb}
+use borrow.Author.Tests.{eq-eqb}
 use Rattle.triple.specs.declared.Triple.{Triple}
 use Rattle.triple.specs.declared.State.{State}
 use Rattle.triple.specs.declared.Sample.{Sample}
@@ -21,89 +21,11 @@ use Rattle.run.specs.Formulas.{remains, goesOn, isShort, rests, startTrack, tra
 use Rattle.run.specs.Samples.{pointSample, startSamples, stepSample, finalSample}
 use Rattle.rules.specs.Rules.{Course, stores, ends, exceeds, sampled, tail, correct, step, march, fly}
 use Rattle.rules.specs.Asked.{clock}
-use Rattle.counting.specs.Paths.{Claims, Each, Always}
-use Rattle.counting.specs.Clockwork.{Fate, arrives, tails, runs-out, fateFrom, fateOf, stepsOf, plainSteps, tailAnswers, least, most, fewestStartups, NeverStops, Counted, gridTime, sampleTime, Ended, RunsOut, clockwork, ByTheClock}
+use Rattle.counting.specs.Paths.{Each, Always}
+use Rattle.counting.specs.Clockwork.{Fate, arrives, tails, runs-out, fateFrom, fateOf, stepsOf, plainSteps, tailAnswers, NeverStops, Counted, gridTime, sampleTime, Ended, RunsOut, clockwork, ByTheClock}
 use Rattle.counting.proofs.Signs.{corrector-goes-on}
 use Rattle.counting.proofs.Startup.{Started, cond-always, rk4-always, startup-always}
-
--- ---- at the head of the loop, j steps after the startup
-pub record Running (p : Plan) (e j startups : ℕ) : Type 0 where
-  pub fewest : fewestStartups p ≤ startups
-  pub limited : startups ≤ p .settings .«max_startup_iters»
-  pub low : 41 + 8 * startups + j ≤ e
-  pub high : e ≤ 41 + 8 * startups + j * (1 + p .settings .«max_corrector_iters»)
-  pub exactly : NeverStops p → (startups ≡ p .settings .«max_startup_iters») × (e ≡ 41 + 8 * startups + j * (1 + p .settings .«max_corrector_iters»))
-
--- so many samples are stored, if they are wanted
-unfoldable pub kept : Plan → ℕ → ℕ
-kept p n = cond (p .settings .samples) n 0
-
-kept-all : (p : Plan) (n : ℕ) → p .settings .samples ≡ true → kept p n ≡ n
-unfolding kept
-kept-all p n h = ap (λ (b : Bool). cond b n 0) h
-
-kept-none : (p : Plan) (n : ℕ) → p .settings .samples ≡ false → kept p n ≡ 0
-unfolding kept
-kept-none p n h = ap (λ (b : Bool). cond b n 0) h
-
-stored : (c : Claims) (e n n' i : ℕ) (s : Sample) (k : Course) → i ≡ n → n' ≡ n + 1 → c .sample i (s .t) → Always c e n' k → Always c e n (stores i (s ∷ []) k)
-unfolding Always Each
-stored c e n n' i s k h g x a = (h, (subst (λ (m : ℕ). c .sample m (s .t)) h x, tt), subst (λ (m : ℕ). Always c e m k) g a)
-
--- ---- the fate lies ahead: it has n steps at least, and up to there the samples stand where the clock stands
-abbrev Ahead : ℕ → Fate → Type 0
-Ahead n (arrives t m) = n ≤ m
-Ahead n (tails m) = n ≤ m
-Ahead n (runs-out m) = n ≤ m
-
-nearer : (i n : ℕ) (f : Fate) → i ≤ n → Ahead n f → Ahead i f
-nearer i n (arrives t m) l h = omega arith
-nearer i n (tails m) l h = omega arith
-nearer i n (runs-out m) l h = omega arith
-
-ahead : (left : ℕ) (p : Plan) (t : Float) (n : ℕ) → Ahead n (fateFrom left p t n)
-unfolding fateFrom
-ahead zero p t n = go (goesOn p t)
-  where
-    go : (b : Bool) → Ahead n (cond b (runs-out n) (arrives t n))
-    go true = omega arith
-    go false = omega arith
-ahead (suc left) p t n = go (goesOn p t) (isShort p t) (nearer n (n + 1) (fateFrom left p (add binary64 t (p .h)) (n + 1)) (omega arith) (ahead left p (add binary64 t (p .h)) (n + 1)))
-  where
-    go : (b s : Bool) → Ahead n (fateFrom left p (add binary64 t (p .h)) (n + 1))
-        → Ahead n (cond b (cond s (tails n) (fateFrom left p (add binary64 t (p .h)) (n + 1))) (arrives t n))
-    go true true h = omega arith
-    go true false h = h
-    go false s h = omega arith
-
--- sample n, with n steps or more ahead
-on-grid : (p : Plan) (f : Fate) (n : ℕ) (t : Float) → Ahead n f → t ≡ gridTime p n → (n ≤ stepsOf f) × (t ≡ sampleTime p f n)
-unfolding stepsOf sampleTime
-on-grid p (arrives u m) n t h e = (h, e)
-on-grid p (tails m) n t h e = (omega arith, e ∙ sym (ap (λ (b : Bool). cond b (p .tf) (gridTime p n)) (ne-eqb n (m + 1) (λ (x : n ≡ m + 1). omega arith))))
-on-grid p (runs-out m) n t h e = (h, e)
-
-clock-grid : (p : Plan) (j : ℕ) → clock p j ≡ gridTime p (4 + j)
-unfolding gridTime
-clock-grid p j =
-    let e : 4 + j - 4 ≡ j = omega arith in
-    sym (ap (λ (b : Bool). cond b (timeAt (p .t0) (p .h) (4 + j + 4)) (clock p (4 + j - 4))) (le-ltb (4 + j) 4 (omega arith)) ∙ ap (clock p) e)
-
--- the counts at the head, and the tail's answers, are the counts at the end
-counted : (p : Plan) (f : Fate) (e e' n j startups : ℕ) → plainSteps f ≡ j → e' ≡ e + tailAnswers p f → n ≡ kept p (stepsOf f + 1) → Running p e j startups → Counted p f e' n startups
-unfolding least most kept
-counted p f e e' n j startups h g k r =
-    let l = r .low in
-    let u = r .high in
-    let x : plainSteps f * (1 + p .settings .«max_corrector_iters») ≡ j * (1 + p .settings .«max_corrector_iters») = ap (λ (i : ℕ). i * (1 + p .settings .«max_corrector_iters»)) h in
-    record {
-      fewest = r .fewest;
-      limited = r .limited;
-      at-least = omega arith;
-      at-most = omega arith;
-      samples = k;
-      exactly = λ (s : NeverStops p). let y = r .exactly s in let z = y .1 in (y .0, omega arith);
-    }
+use Rattle.counting.proofs.Heads.{Running, kept, kept-all, kept-none, stored, Ahead, nearer, ahead, on-grid, clock-grid, counted}
 
 module _ (p : Plan) (f : Fate) where
   -- ---- the ends
