@@ -8,3 +8,5 @@ pub mod Wholes
 pub mod Claims
 pub mod Tallies
 pub mod OnTime
+pub mod Lines
+pub mod Runs

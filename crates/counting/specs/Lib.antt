@@ -1,3 +1,4 @@
 pub mod Paths
 pub mod Clockwork
 pub mod Counting
+pub mod Runs

@@ -1,0 +1,146 @@
+-- A line of calls along a tree on which the claims hold: it never meets 6 or 2, and it finishes as claimed.
+use mathlib.Core.Path.{_≡_, refl, sym, ap, _∙_, subst}
+use mathlib.Core.Logic.{_⊎_, inl, inr}
+use Prim.Native.Nat.{ℕ, zero, suc, _+_, _*_, _%_, _≤_, _<_}
+use native.Mathlib.Nat.{mul-le-mul-left}
+use native.Mathlib.Omega.{arith}
+use mathlib.Core.Bool.{Bool, true, false, not, cond}
+use mathlib.Core.List.{List, [], _∷_, _++_}
+use lib.Dec.{T, eqb}
+use lib.ListN.{length, length-set, length-append}
+use lib.Ieee.{Float}
+use borrow.Author.Tests.{le-leb}
+use Rattle.triple.specs.declared.Triple.{Triple}
+use Rattle.triple.specs.declared.State.{State}
+use Rattle.triple.specs.declared.Point.{Point}
+use Rattle.triple.specs.declared.Sample.{Sample}
+use Rattle.triple.specs.Arithmetic.{zeros}
+use Rattle.run.specs.Samples.{fits, put, putAll}
+use Rattle.rules.specs.Rules.{Course, asks, stores, ends, exceeds}
+use Rattle.rules.specs.Walk.{Said, question, finished, refused, Call, Result, Line, open-at, over, Stop, settle, turn, walk}
+use Rattle.counting.specs.Paths.{Claims, Each, Always}
+use Rattle.counting.specs.Runs.{Adds, Over, Tells, Going, Roomy}
+
+-- ---- what no end exceeds is exceeded nowhere on the way
+pub record Limits (c : Claims) (E N : ℕ) : Type 0 where
+  pub answers : (e n : ℕ) (t : Float) (steps startups : ℕ) → c .finish e n t steps startups → e ≤ E
+  pub samples : (e n : ℕ) (t : Float) (steps startups : ℕ) → c .finish e n t steps startups → n ≤ N
+  pub never : (e n : ℕ) → c .excess e n → ⊥
+
+module _ (c : Claims) (E N : ℕ) (l : Limits c E N) where
+  under : (e n : ℕ) (k : Course) → Always c e n k → (e ≤ E) × (n ≤ N)
+  unfolding Always
+  under e n (asks q k) h = let u = under (e + 1) n (k zeros) (h zeros) in let a = u .0 in (omega arith, u .1)
+  under e n (stores i ss k) h = let u = under e (n + length ss) k (h .2) in let b = u .1 in (u .0, omega arith)
+  under e n (ends t y steps startups) h = (l .answers e n t steps startups h, l .samples e n t steps startups h)
+  under e n exceeds h = absurd (l .never e n h)
+
+-- ---- rows of samples, one after the other
+length-put : (n : ℕ) (s : Sample) (out : List Float) → length (put n s out) ≡ length out
+unfolding put
+length-put n s out = simp length-set
+
+length-put-all : (n : ℕ) (ss : List Sample) (out : List Float) → length (putAll n ss out) ≡ length out
+unfolding putAll
+length-put-all n [] out = refl
+length-put-all n (s ∷ ss) out = length-put-all (n + 1) ss (put n s out) ∙ length-put n s out
+
+put-more : (n m : ℕ) (ss rs : List Sample) (out : List Float) → n + length ss ≡ m → putAll m rs (putAll n ss out) ≡ putAll n (ss ++ rs) out
+unfolding putAll
+put-more n m [] rs out e = let f : m ≡ n = omega arith in ap (λ (i : ℕ). putAll i rs out) f
+put-more n m (s ∷ ss) rs out e = put-more (n + 1) m ss rs (put n s out) (omega arith)
+
+each-more : (P : ℕ → Float → Type 0) (n m : ℕ) (ss rs : List Sample) → n + length ss ≡ m → Each P n ss → Each P m rs → Each P n (ss ++ rs)
+unfolding Each
+each-more P n m [] rs e h k = let f : m ≡ n = omega arith in subst (λ (i : ℕ). Each P i rs) f k
+each-more P n m (s ∷ ss) rs e h k = (h .0, each-more P (n + 1) m ss rs (omega arith) (h .1) k)
+
+fitting : (j m : ℕ) (out : List Float) → 10 * (j + m) ≤ length out → fits j m out ≡ true
+unfolding fits
+fitting j m out h = le-leb (10 * (j + m)) (length out) h
+
+-- nothing, and one row after another
+adds-none : (P : ℕ → Float → Type 0) (n : ℕ) (out : List Float) → Adds P n n out out
+unfolding putAll Each
+adds-none P n out = record { samples = []; count = omega arith; stored = refl; each = tt }
+
+adds-more : (P : ℕ → Float → Type 0) (n m l : ℕ) (ss : List Sample) (out after : List Float) → n + length ss ≡ m → Each P n ss → Adds P m l (putAll n ss out) after → Adds P n l out after
+adds-more P n m l ss out after e h a =
+    let c = a .count in
+    let d = length-append ss (a .samples) in
+    record {
+      samples = ss ++ a .samples;
+      count = omega arith;
+      stored = a .stored ∙ put-more n m ss (a .samples) out e;
+      each = each-more P n m ss (a .samples) e h (a .each);
+    }
+
+module _ (c : Claims) (E N : ℕ) (l : Limits c E N) where
+  -- ---- after an accepted answer, the e-th: a question, or the end
+  abbrev Asked : (i e m : ℕ) → Stop → Type 0
+  Asked i e m s = (q : Point) × (k : Triple → Course) × (s ≡ record { said = question i q; out = s .out; line = open-at i e q k }) × ((a : Triple) → Always c (e + 1) m (k a))
+
+  abbrev Done : (e m : ℕ) → Stop → Type 0
+  Done e m s = (t : Float) × (y : State) × (steps : ℕ) × (startups : ℕ) × (s ≡ record { said = finished t y e steps startups; out = s .out; line = over }) × c .finish e m t steps startups
+
+  record Settled (i e n : ℕ) (out : List Float) (s : Stop) : Type 0 where
+    after : ℕ
+    adds : Adds (c .sample) n after out (s .out)
+    how : Asked i e after s ⊎ Done e after s
+
+  more : (i e n j : ℕ) (ss : List Sample) (out : List Float) (s : Stop) → j ≡ n → Each (c .sample) n ss → Settled i e (n + length ss) (putAll j ss out) s → Settled i e n out s
+  more i e n j ss out s q h x =
+      record {
+        after = x .after;
+        adds = adds-more (c .sample) n (n + length ss) (x .after) ss out (s .out) refl h
+            (subst (λ (m : ℕ). Adds (c .sample) (n + length ss) (x .after) (putAll m ss out) (s .out)) q (x .adds));
+        how = x .how;
+      }
+
+  settled : (i e n : ℕ) (k : Course) (out : List Float) → Always c e n k → 10 * N ≤ length out → Settled i e n out (settle k i e out)
+  unfolding settle Always
+  settled i e n (asks q k) out h r = record { after = n; adds = adds-none (c .sample) n out; how = inl (q, k, refl, h) }
+  settled i e n (stores j ss k) out h r =
+      let u : n + length ss ≤ N = under c E N l e (n + length ss) k (h .2) .1 in
+      let q = h .0 in
+      let g = length-put-all j ss out in
+      subst (λ (b : Bool). Settled i e n out (cond b (settle k i e (putAll j ss out)) (record { said = refused 6; out = out; line = over })))
+      (sym (fitting j (length ss) out (omega arith)))
+      (more i e n j ss out (settle k i e (putAll j ss out)) q (h .1) (settled i e (n + length ss) k (putAll j ss out) (h .2) (omega arith)))
+  settled i e n (ends t y steps startups) out h r = record { after = n; adds = adds-none (c .sample) n out; how = inr (t, y, steps, startups, refl, h) }
+  settled i e n exceeds out h r = absurd (l .never e n h)
+
+  -- ---- a call, and then the calls that follow
+  over-is : (cs : List Call) → Over cs (walk over cs)
+  unfolding Over walk turn
+  over-is [] = tt
+  over-is (k ∷ cs) = (refl, refl, over-is cs)
+
+  -- the calls that follow go on from any open question
+  abbrev Onward : List Call → Type 0
+  Onward cs = (i e n : ℕ) (q : Point) (k : Triple → Course) → ((a : Triple) → Always c (e + 1) n (k a)) → Going c E e n cs (walk (open-at i e q k) cs)
+
+  -- what is to be shown of a call's stop
+  abbrev Goes : (e n : ℕ) → List Float → List Call → Stop → Type 0
+  Goes e n out cs s =
+      (m : ℕ) × Adds (c .sample) n m out (s .out)
+      × Tells c E e n m (s .said) (Going c E (e + 1) m cs (walk (s .line) cs)) (Going c E e n cs (walk (s .line) cs)) (Over cs (walk (s .line) cs))
+
+  accepted : (i e n : ℕ) (out : List Float) (cs : List Call) (s : Stop) → Onward cs → Settled i (e + 1) n out s → Goes e n out cs s
+  unfolding Tells
+  accepted i e n out cs s f x = go (x .how)
+    where
+      go : Asked i (e + 1) (x .after) s ⊎ Done (e + 1) (x .after) s → Goes e n out cs s
+      go (inl a) =
+          let u : e + 1 + 1 ≤ E = under c E N l (e + 1 + 1) (x .after) (a .1 zeros) (a .3 zeros) .0 in
+          subst (Goes e n out cs) (sym (a .2)) (x .after, x .adds, (omega arith, f i (e + 1) (x .after) (a .0) (a .1) (a .3)))
+      go (inr a) = subst (Goes e n out cs) (sym (a .4)) (x .after, x .adds, (refl, a .5, over-is cs))
+
+  pub going : (i e n : ℕ) (q : Point) (k : Triple → Course) (cs : List Call) → ((a : Triple) → Always c (e + 1) n (k a)) → Roomy N cs → Going c E e n cs (walk (open-at i e q k) cs)
+  unfolding Going walk turn Roomy Tells
+  going i e n q k [] h r = tt
+  going i e n q k (x ∷ cs) h r = go (eqb i (x .number)) (λ (i e n : ℕ) (q : Point) (k : Triple → Course) (h : (a : Triple) → Always c (e + 1) n (k a)). going i e n q k cs h (r .1))
+    where
+      go : (b : Bool) → Onward cs → Goes e n (x .out) cs (cond b (settle (k (x .a)) ((i + 1) % 65536) (e + 1) (x .out)) (record { said = refused 8; out = x .out; line = open-at i e q k }))
+      go true f = accepted ((i + 1) % 65536) e n (x .out) cs (settle (k (x .a)) ((i + 1) % 65536) (e + 1) (x .out)) f (settled ((i + 1) % 65536) (e + 1) n (k (x .a)) (x .out) (h (x .a)) (r .0))
+      go false f = (n, adds-none (c .sample) n (x .out), (refl, refl, f i e n q k h))

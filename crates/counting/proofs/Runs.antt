@@ -1,0 +1,58 @@
+-- Demand 3 of runs, from the theorem on trees and from `follows-the-rules`.
+use mathlib.Core.Path.{_≡_, refl, sym, ap, _∙_, subst}
+use Prim.Native.Nat.{ℕ, _+_, _≤_}
+use native.Mathlib.Omega.{arith}
+use mathlib.Core.Bool.{Bool, true, false, cond}
+use mathlib.Core.List.{List, []}
+use lib.IntN.{ℤ, natAbs}
+use lib.Ieee.{Float}
+use Rattle.triple.specs.declared.Triple.{Triple}
+use Rattle.triple.specs.declared.Point.{Point}
+use Rattle.run.specs.declared.Settings.{Settings}
+use Rattle.run.specs.Plan.{withinLimits, planOf, tooNear}
+use Rattle.gauss_jackson.specs.Answers.{started}
+use Rattle.rules.specs.Rules.{Course, asks, integrate}
+use Rattle.rules.specs.Walk.{Said, question, refused, Call, Result, over, Stop, settle, walk, begin}
+use Rattle.rules.specs.Follows.{played}
+use Rattle.rules.proofs.Follows.{follows-the-rules}
+use Rattle.counting.specs.Paths.{Claims, Always}
+use Rattle.counting.specs.Counting.{spanOf, mostBefore, Bounds, OnTime, onTime, EndsOnTime}
+use Rattle.counting.specs.Runs.{Going, Roomy, roomFor, FinishesOnTime}
+use Rattle.counting.proofs.OnTime.{ends-on-time}
+use Rattle.counting.proofs.Lines.{Limits, going}
+
+-- an accepted start is the whole tree
+accepted-start : (s : Settings) (t0 tf : Float) (r0 v0 : Triple) → withinLimits s ≡ true → tooNear (planOf s t0 tf) ≡ false
+    → begin s t0 tf r0 v0 ≡ settle (integrate (planOf s t0 tf) r0 v0) 0 0 []
+unfolding begin
+accepted-start s t0 tf r0 v0 h k =
+    ap (λ (b : Bool). cond b (cond (tooNear (planOf s t0 tf)) (record { said = refused 1; out = []; line = over }) (settle (integrate (planOf s t0 tf) r0 v0) 0 0 [])) (record { said = refused 5; out = []; line = over })) h
+    ∙ ap (λ (b : Bool). cond b (record { said = refused 1; out = []; line = over }) (settle (integrate (planOf s t0 tf) r0 v0) 0 0 [])) k
+
+module _ {s : Settings} {t0 tf : Float} {z0 zf hz : ℤ} (b : Bounds s t0 tf z0 zf hz) (r0 v0 : Triple) where
+  limits : Limits (onTime s t0 tf z0 zf (natAbs hz)) (mostBefore s (spanOf z0 zf) (natAbs hz)) (roomFor s (spanOf z0 zf) (natAbs hz))
+  unfolding onTime roomFor
+  limits =
+      record {
+        answers = λ (e n : ℕ) (t : Float) (steps startups : ℕ) (f : OnTime s t0 tf z0 zf (natAbs hz) e n t steps startups). f .most-before;
+        samples = λ (e n : ℕ) (t : Float) (steps startups : ℕ) (f : OnTime s t0 tf z0 zf (natAbs hz) e n t steps startups). let q = f .samples in omega arith;
+        never = λ (e n : ℕ) (f : ⊥). f;
+      }
+
+  lines : (cs : List Call) → Roomy (roomFor s (spanOf z0 zf) (natAbs hz)) cs
+      → Going (onTime s t0 tf z0 zf (natAbs hz)) (mostBefore s (spanOf z0 zf) (natAbs hz)) 0 0 cs (walk (settle (integrate (planOf s t0 tf) r0 v0) 0 0 [] .line) cs)
+  unfolding settle integrate Always
+  lines cs r =
+      going (onTime s t0 tf z0 zf (natAbs hz)) (mostBefore s (spanOf z0 zf) (natAbs hz)) (roomFor s (spanOf z0 zf) (natAbs hz)) limits 0 0 0
+      _ _ cs (ends-on-time b r0 v0 .always) r
+
+  pub finishes-on-time : (cs : List Call) → Roomy (roomFor s (spanOf z0 zf) (natAbs hz)) cs → FinishesOnTime s t0 tf z0 zf hz r0 v0 cs
+  unfolding settle integrate planOf
+  finishes-on-time cs r =
+      let e = accepted-start s t0 tf r0 v0 (b .limits) (ends-on-time b r0 v0 .accepted) in
+      let f = follows-the-rules s t0 tf r0 v0 cs in
+      record {
+        first = f .first ∙ ap (λ (x : Stop). x .said) e;
+        then = subst (Going (onTime s t0 tf z0 zf (natAbs hz)) (mostBefore s (spanOf z0 zf) (natAbs hz)) 0 0 cs)
+            (sym (f .then ∙ ap (λ (x : Stop). walk (x .line) cs) e)) (lines cs r);
+      }

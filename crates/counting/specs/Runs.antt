@@ -1,0 +1,63 @@
+-- Demand 3, said of runs: every list of calls from `start`, refused ones among them, each with a buffer that has room.
+-- The proof is `finishes-on-time` in proofs/Runs.antt.
+use mathlib.Core.Path.{_≡_}
+use Prim.Native.Nat.{ℕ, _+_, _*_, _≤_, _<_}
+use mathlib.Core.Bool.{cond}
+use mathlib.Core.List.{List, [], _∷_}
+use lib.IntN.{ℤ, natAbs}
+use lib.ListN.{length}
+use lib.Ieee.{Float}
+use Rattle.triple.specs.declared.Triple.{Triple}
+use Rattle.triple.specs.declared.Sample.{Sample}
+use Rattle.refusals.specs.Numbers.{numberOf}
+use Rattle.refusals.specs.declared.Refusal.the-variants.{NoQuestion, NotThatQuestion}
+use Rattle.run.specs.declared.Settings.{Settings}
+use Rattle.run.specs.Samples.{putAll}
+use Rattle.gauss_jackson.specs.Answers.{started}
+use Rattle.rules.specs.Walk.{Said, question, finished, refused, told, Call, Result}
+use Rattle.rules.specs.Follows.{played}
+use Rattle.counting.specs.Paths.{Claims, Each}
+use Rattle.counting.specs.Counting.{spanOf, stepsFor, mostBefore, onTime}
+
+-- a call adds samples n to m - 1 to its buffer, each as claimed, and leaves every other number
+pub record Adds (claim : ℕ → Float → Type 0) (n m : ℕ) (before after : List Float) : Type 0 where
+  pub samples : List Sample
+  pub count : n + length samples ≡ m
+  pub stored : after ≡ putAll n samples before
+  pub each : Each claim n samples
+
+-- after the end every call is told 7 and changes nothing
+unfoldable pub Over : List Call → List Result → Type 0
+Over [] [] = Unit {0}
+Over [] (r ∷ rs) = ⊥
+Over (c ∷ cs) [] = ⊥
+Over (c ∷ cs) (r ∷ rs) = (r .said ≡ refused (numberOf NoQuestion)) × (r .out ≡ c .out) × Over cs rs
+
+-- what is told after e accepted answers, with n samples stored before the call and m after it: a question, and then fewer than `most` answers
+-- are accepted; or the finished state as claimed, with evals the count of accepted answers; or 8. Nothing else.
+unfoldable pub Tells : Claims → (most e n m : ℕ) → Said → (further same over : Type 0) → Type 0
+Tells c most e n m (question i q) further same over = (e + 1 < most) × further
+Tells c most e n m (finished t y evals steps startups) further same over = (evals ≡ e + 1) × c .finish (e + 1) m t steps startups × over
+Tells c most e n m (refused i) further same over = (i ≡ numberOf NotThatQuestion) × (m ≡ n) × same
+
+-- calls and their results, after e accepted answers and n samples
+unfoldable pub Going : Claims → (most e n : ℕ) → List Call → List Result → Type 0
+Going c most e n [] [] = Unit {0}
+Going c most e n [] (r ∷ rs) = ⊥
+Going c most e n (k ∷ ks) [] = ⊥
+Going c most e n (k ∷ ks) (r ∷ rs) =
+    (m : ℕ) × Adds (c .sample) n m (k .out) (r .out)
+    × Tells c most e n m (r .said) (Going c most (e + 1) m ks rs) (Going c most e n ks rs) (Over ks rs)
+
+-- every buffer has room for n samples
+unfoldable pub Roomy : ℕ → List Call → Type 0
+Roomy n [] = Unit {0}
+Roomy n (c ∷ cs) = (10 * n ≤ length (c .out)) × Roomy n cs
+
+-- K + 1 samples, if they are wanted
+unfoldable pub roomFor : Settings → (span step : ℕ) → ℕ
+roomFor s span step = cond (s .samples) (stepsFor span step + 1) 0
+
+pub record FinishesOnTime (s : Settings) (t0 tf : Float) (z0 zf hz : ℤ) (r0 v0 : Triple) (cs : List Call) : Type 0 where
+  pub first : told (started s t0 tf r0 v0 .outcome) ≡ question 0 (record { t = t0; r = r0; v = v0 })
+  pub then : Going (onTime s t0 tf z0 zf (natAbs hz)) (mostBefore s (spanOf z0 zf) (natAbs hz)) 0 0 cs (played (started s t0 tf r0 v0 .run) cs)
