@@ -9,4 +9,6 @@ pub mod Claims
 pub mod Tallies
 pub mod OnTime
 pub mod Lines
+pub mod Starts
 pub mod Runs
+pub mod Starred

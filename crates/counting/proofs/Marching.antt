@@ -64,7 +64,7 @@ module _ (p : Plan) (f : Fate) where
       let z = kept-all p (4 + j + 1 + 1) b in
       let o = kept-all p 1 b in
       stored (clockwork p f) (e' + 1) (kept p (4 + j + 1)) (kept p (4 + j + 1 + 1)) (4 + j + 1) (finalSample p y a) (ends (p .tf) y (4 + j + 1) startups)
-      (sym x) (omega arith) (tail-sample j h)
+      (sym x) (omega arith) (b, tail-sample j h .0, tail-sample j h .1)
       (landed e (e' + 1) (kept p (4 + j + 1 + 1)) j startups y h (omega arith) refl r)
 
   tail-bare : (e e' j startups : ℕ) (y : State) → f ≡ tails (4 + j) → e' ≡ e + 4 → Running p e j startups → p .settings .samples ≡ false
@@ -124,7 +124,8 @@ module _ (p : Plan) (f : Fate) where
       let z = kept-all p (4 + (j + 1) + 1) b in
       let i : 4 + (j + 1) ≡ 4 + j + 1 = omega arith in
       stored (clockwork p f) e (kept p (4 + j + 1)) (kept p (4 + (j + 1) + 1)) (4 + j + 1) s k (sym x) (omega arith)
-      (subst (λ (m : ℕ). (m ≤ stepsOf f) × (s .t ≡ sampleTime p f m)) i (on-grid p f (4 + (j + 1)) (s .t) o (h ∙ clock-grid p (j + 1)))) a)
+      (subst (λ (m : ℕ). (p .settings .samples ≡ true) × (m ≤ stepsOf f) × (s .t ≡ sampleTime p f m)) i
+      (let g = on-grid p f (4 + (j + 1)) (s .t) o (h ∙ clock-grid p (j + 1)) in (b, g .0, g .1))) a)
       (λ (b : p .settings .samples ≡ false).
       subst (λ (m : ℕ). Always (clockwork p f) e m k) (kept-none p (4 + (j + 1) + 1) b ∙ sym (kept-none p (4 + j + 1) b)) a)
 
@@ -177,14 +178,14 @@ fly-always : (p : Plan) (startups : ℕ) (x : Places) (a : List Triple) (e : ℕ
 unfolding fly sampled Always Each clockwork startTrack startSamples pointSample fateOf gridTime clock
 fly-always p startups x a e s =
     cond-always (clockwork p f) e 0 (p .settings .samples) _ _
-    (λ (b : p .settings .samples ≡ true). (refl, (on 0 (omega arith) refl, (on 1 (omega arith) refl, (on 2 (omega arith) refl, (on 3 (omega arith) refl, (on 4 (omega arith) refl, tt))))), subst (λ (n : ℕ). Always (clockwork p f) e n steps) (kept-all p 5 b) marched))
+    (λ (b : p .settings .samples ≡ true). (refl, (on 0 b (omega arith) refl, (on 1 b (omega arith) refl, (on 2 b (omega arith) refl, (on 3 b (omega arith) refl, (on 4 b (omega arith) refl, tt))))), subst (λ (n : ℕ). Always (clockwork p f) e n steps) (kept-all p 5 b) marched))
     (λ (b : p .settings .samples ≡ false). subst (λ (n : ℕ). Always (clockwork p f) e n steps) (kept-none p 5 b) marched)
   where
     f : Fate
     f = fateOf p
 
-    on : (i : ℕ) {t : Float} → i ≤ 4 → t ≡ gridTime p i → (i ≤ stepsOf f) × (t ≡ sampleTime p f i)
-    on i {t} l h = on-grid p f i t (nearer i 4 f l (ahead (p .settings .«max_steps» - 4) p (timeAt (p .t0) (p .h) 8) 4)) h
+    on : (i : ℕ) {t : Float} → p .settings .samples ≡ true → i ≤ 4 → t ≡ gridTime p i → (p .settings .samples ≡ true) × (i ≤ stepsOf f) × (t ≡ sampleTime p f i)
+    on i {t} b l h = let g = on-grid p f i t (nearer i 4 f l (ahead (p .settings .«max_steps» - 4) p (timeAt (p .t0) (p .h) 8) 4)) h in (b, g .0, g .1)
 
     steps : Course
     steps = march (p .settings .«max_steps» - 4) p startups (startTrack p x a) a

@@ -20,14 +20,7 @@ use Rattle.counting.specs.Counting.{spanOf, mostBefore, Bounds, OnTime, 
 use Rattle.counting.specs.Runs.{Going, Roomy, roomFor, FinishesOnTime}
 use Rattle.counting.proofs.OnTime.{ends-on-time}
 use Rattle.counting.proofs.Lines.{Limits, going}
-
--- an accepted start is the whole tree
-accepted-start : (s : Settings) (t0 tf : Float) (r0 v0 : Triple) → withinLimits s ≡ true → tooNear (planOf s t0 tf) ≡ false
-    → begin s t0 tf r0 v0 ≡ settle (integrate (planOf s t0 tf) r0 v0) 0 0 []
-unfolding begin
-accepted-start s t0 tf r0 v0 h k =
-    ap (λ (b : Bool). cond b (cond (tooNear (planOf s t0 tf)) (record { said = refused 1; out = []; line = over }) (settle (integrate (planOf s t0 tf) r0 v0) 0 0 [])) (record { said = refused 5; out = []; line = over })) h
-    ∙ ap (λ (b : Bool). cond b (record { said = refused 1; out = []; line = over }) (settle (integrate (planOf s t0 tf) r0 v0) 0 0 [])) k
+use Rattle.counting.proofs.Starts.{accepted-start}
 
 module _ {s : Settings} {t0 tf : Float} {z0 zf hz : ℤ} (b : Bounds s t0 tf z0 zf hz) (r0 v0 : Triple) where
   limits : Limits (onTime s t0 tf z0 zf (natAbs hz)) (mostBefore s (spanOf z0 zf) (natAbs hz)) (roomFor s (spanOf z0 zf) (natAbs hz))

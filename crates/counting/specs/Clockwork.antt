@@ -97,7 +97,7 @@ RunsOut (runs-out m) = Unit {0}
 unfoldable pub clockwork : Plan → Fate → Claims
 clockwork p f =
     record {
-      sample = λ (n : ℕ) (t : Float). (n ≤ stepsOf f) × (t ≡ sampleTime p f n);
+      sample = λ (n : ℕ) (t : Float). (p .settings .samples ≡ true) × (n ≤ stepsOf f) × (t ≡ sampleTime p f n);
       finish = λ (e n : ℕ) (t : Float) (steps startups : ℕ). Ended p f t steps × Counted p f e n startups;
       excess = λ (e n : ℕ). RunsOut f × ((startups : ℕ) × Counted p f e n startups);
     }

@@ -89,11 +89,11 @@ pub record OnTime (s : Settings) (t0 tf : Float) (z0 zf : ℤ) (step : ℕ) (e n
   -- "With both tolerances zero or less S is max_startup_iters and the upper number is met."
   pub exactly : NeverStops (planOf s t0 tf) → (startups ≡ s .«max_startup_iters») × (e ≡ mostFor s (spanOf z0 zf) step startups)
 
--- sample n stands exactly n steps from the start, the last at the end; no path runs out of steps
+-- samples are stored only where they are wanted; sample n stands exactly n steps from the start, the last at the end; no path runs out of steps
 unfoldable pub onTime : Settings → (t0 tf : Float) → (z0 zf : ℤ) → (step : ℕ) → Claims
 onTime s t0 tf z0 zf step =
     record {
-      sample = λ (n : ℕ) (t : Float). (n ≤ stepsFor (spanOf z0 zf) step) × IsWhole t (whenFor z0 zf step n);
+      sample = λ (n : ℕ) (t : Float). (s .samples ≡ true) × (n ≤ stepsFor (spanOf z0 zf) step) × IsWhole t (whenFor z0 zf step n);
       finish = λ (e n : ℕ) (t : Float) (steps startups : ℕ). OnTime s t0 tf z0 zf step e n t steps startups;
       excess = λ (e n : ℕ). ⊥;
     }

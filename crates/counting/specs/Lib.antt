@@ -2,3 +2,4 @@ pub mod Paths
 pub mod Clockwork
 pub mod Counting
 pub mod Runs
+pub mod Starred

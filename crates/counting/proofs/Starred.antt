@@ -1,0 +1,186 @@
+-- With both tolerances zero or less what comes out is foretold by the clock; the table is one computed test of that.
+use mathlib.Core.Path.{_≡_, refl, sym, ap, _∙_, subst}
+use Prim.Native.Nat.{ℕ, zero, suc, _+_, _-_, _*_, _≤_, _<_}
+use native.Mathlib.Omega.{arith}
+use mathlib.Core.Bool.{Bool, true, false, _&&_, cond, false≢true}
+use mathlib.Core.List.{List, [], _∷_}
+use lib.ListN.{length}
+use lib.Ieee.{Float, binary64, ofInt, round, neg, add, sub, mul, div, lt, le, eq}
+use Rattle.triple.specs.declared.Triple.{Triple}
+use Rattle.triple.specs.Arithmetic.{nought}
+use Rattle.triple.specs.Size.{absolute}
+use Rattle.startup.specs.Points.{offset, timeAt}
+use Rattle.run.specs.declared.Settings.{Settings}
+use Rattle.run.specs.declared.Plan.{Plan}
+use Rattle.run.specs.Plan.{withinLimits, direction, planOf, tooNear}
+use Rattle.run.specs.Formulas.{remains, goesOn, isShort}
+use Rattle.rules.specs.Rules.{integrate}
+use Rattle.rules.specs.Asked.{clock}
+use Rattle.rules.specs.Walk.{begin}
+use Rattle.counting.specs.Paths.{Claims, Always}
+use Rattle.counting.specs.Clockwork.{Fate, arrives, tails, runs-out, fateFrom, fateOf, stepsOf, plainSteps, tailAnswers, most, NeverStops, Counted, gridTime, sampleTime, clockwork}
+use Rattle.counting.proofs.Starts.{too-near, over-limit}
+use Rattle.counting.proofs.Claims.{always-follows}
+use Rattle.counting.proofs.Marching.{by-the-clock}
+use Rattle.counting.specs.Starred.{Expected, no-run, finishes, exceeds-at, At, expecting, Meets, Row, starredRows, AllMeet}
+
+-- the times of the first n samples
+unfoldable timesUpTo : Plan → Fate → ℕ → (n : ℕ) → List Float
+timesUpTo p f i zero = []
+timesUpTo p f i (suc n) = sampleTime p f i ∷ timesUpTo p f (i + 1) n
+
+unfoldable allTimes : Plan → Fate → List Float
+allTimes p f = cond (p .settings .samples) (timesUpTo p f 0 (stepsOf f + 1)) []
+
+unfoldable ofFate : Plan → Fate → Expected
+ofFate p (arrives t n) = finishes t n (most p (arrives t n) (p .settings .«max_startup_iters»)) (allTimes p (arrives t n))
+ofFate p (tails n) = finishes (p .tf) (n + 1) (most p (tails n) (p .settings .«max_startup_iters»)) (allTimes p (tails n))
+ofFate p (runs-out n) = exceeds-at (most p (runs-out n) (p .settings .«max_startup_iters»))
+
+-- ---- the fate, worked out no further than it must be: only the arm that is taken is run
+unfoldable pick : Bool → (Unit {0} → Fate) → (Unit {0} → Fate) → Fate
+pick true f g = f tt
+pick false f g = g tt
+
+pick-is : (b : Bool) (f g : Unit {0} → Fate) → pick b f g ≡ cond b (f tt) (g tt)
+unfolding pick
+pick-is true f g = refl
+pick-is false f g = refl
+
+unfoldable fateRun : (left : ℕ) → Plan → Float → ℕ → Fate
+fateRun zero p t n = pick (goesOn p t) (λ (u : Unit {0}). runs-out n) (λ (u : Unit {0}). arrives t n)
+fateRun (suc left) p t n =
+    pick (goesOn p t) (λ (u : Unit {0}). pick (isShort p t) (λ (v : Unit {0}). tails n) (λ (v : Unit {0}). fateRun left p (add binary64 t (p .h)) (n + 1)))
+    (λ (u : Unit {0}). arrives t n)
+
+fate-run : (left : ℕ) (p : Plan) (t : Float) (n : ℕ) → fateRun left p t n ≡ fateFrom left p t n
+unfolding fateRun fateFrom
+fate-run zero p t n = pick-is (goesOn p t) _ _
+fate-run (suc left) p t n =
+    pick-is (goesOn p t) _ _
+    ∙ ap (λ (f : Fate). cond (goesOn p t) f (arrives t n)) (pick-is (isShort p t) _ _ ∙ ap (λ (f : Fate). cond (isShort p t) (tails n) f) (fate-run left p (add binary64 t (p .h)) (n + 1)))
+
+unfoldable runFate : Plan → Fate
+runFate p = fateRun (p .settings .«max_steps» - 4) p (timeAt (p .t0) (p .h) 8) 4
+
+unfoldable foretold : Settings → Float → Float → Expected
+foretold s t0 tf = cond (withinLimits s) (cond (tooNear (planOf s t0 tf)) (no-run 1) (ofFate (planOf s t0 tf) (runFate (planOf s t0 tf)))) (no-run 5)
+
+-- ---- the computed test
+unfoldable foretoldRows : List Row → List Expected
+foretoldRows [] = []
+foretoldRows (r ∷ rs) = foretold (r .settings) (r .t0) (r .tf) ∷ foretoldRows rs
+
+unfoldable expectedRows : List Row → List Expected
+expectedRows [] = []
+expectedRows (r ∷ rs) = r .expected ∷ expectedRows rs
+
+rows-agree : foretoldRows starredRows ≡ expectedRows starredRows
+unfolding foretoldRows expectedRows foretold ofFate withinLimits tooNear planOf direction runFate fateRun pick goesOn isShort remains timeAt offset allTimes timesUpTo sampleTime gridTime clock most plainSteps tailAnswers stepsOf absolute ofInt round add sub mul div neg lt le eq
+rows-agree = refl
+
+-- ---- the law: what is foretold comes out
+times-at : (p : Plan) (f : Fate) (i n j : ℕ) (x : Float) → j < n → x ≡ sampleTime p f (i + j) → At (timesUpTo p f i n) j x
+unfolding timesUpTo At
+times-at p f i zero j x l e = absurd (omega arith)
+times-at p f i (suc n) zero x l e = let z : i + 0 ≡ i = omega arith in e ∙ ap (sampleTime p f) z
+times-at p f i (suc n) (suc j) x l e = let z : i + suc j ≡ i + 1 + j = omega arith in times-at p f (i + 1) n j x (omega arith) (e ∙ ap (sampleTime p f) z)
+
+times-count : (p : Plan) (f : Fate) (i n : ℕ) → length (timesUpTo p f i n) ≡ n
+unfolding timesUpTo
+times-count p f i zero = refl
+times-count p f i (suc n) = ap suc (times-count p f (i + 1) n)
+
+all-at : (p : Plan) (f : Fate) (n : ℕ) (x : Float) → (p .settings .samples ≡ true) × (n ≤ stepsOf f) × (x ≡ sampleTime p f n) → At (allTimes p f) n x
+unfolding allTimes
+all-at p f n x h =
+    let l = h .1 in
+    let z : 0 + n ≡ n = omega arith in
+    subst (λ (b : Bool). At (cond b (timesUpTo p f 0 (stepsOf f + 1)) []) n x) (sym (h .0)) (times-at p f 0 (stepsOf f + 1) n x (omega arith) (h .2 ∙ sym (ap (sampleTime p f) z)))
+
+all-count : (p : Plan) (f : Fate) → cond (p .settings .samples) (stepsOf f + 1) 0 ≡ length (allTimes p f)
+unfolding allTimes
+all-count p f = go (p .settings .samples)
+  where
+    go : (b : Bool) → cond b (stepsOf f + 1) 0 ≡ length (cond b (timesUpTo p f 0 (stepsOf f + 1)) [])
+    go true = sym (times-count p f 0 (stepsOf f + 1))
+    go false = refl
+
+-- the counts at an end, with tolerances that stop nothing
+module _ (p : Plan) (never : NeverStops p) where
+  met : (f : Fate) (e n startups : ℕ) → Counted p f e n startups → e ≡ most p f (p .settings .«max_startup_iters»)
+  met f e n startups c = let y = c .exactly never in y .1 ∙ ap (most p f) (y .0)
+
+  fate-meets : (f : Fate) (r0 v0 : Triple) → Always (clockwork p f) 0 0 (integrate p r0 v0) → Always (expecting (ofFate p f)) 0 0 (integrate p r0 v0)
+  unfolding ofFate expecting clockwork
+  fate-meets (arrives u m) r0 v0 h =
+      always-follows (clockwork p (arrives u m)) (expecting (ofFate p (arrives u m))) (all-at p (arrives u m))
+      (λ (e n : ℕ) (t : Float) (steps startups : ℕ) (c : ((t ≡ u) × (steps ≡ m)) × Counted p (arrives u m) e n startups).
+      (c .0 .0, c .0 .1, met (arrives u m) e n startups (c .1), c .1 .samples ∙ all-count p (arrives u m)))
+      (λ (e n : ℕ) (c : ⊥ × ((s : ℕ) × Counted p (arrives u m) e n s)). c .0) 0 0 (integrate p r0 v0) h
+  fate-meets (tails m) r0 v0 h =
+      always-follows (clockwork p (tails m)) (expecting (ofFate p (tails m))) (all-at p (tails m))
+      (λ (e n : ℕ) (t : Float) (steps startups : ℕ) (c : ((t ≡ p .tf) × (steps ≡ m + 1)) × Counted p (tails m) e n startups).
+      (c .0 .0, c .0 .1, met (tails m) e n startups (c .1), c .1 .samples ∙ all-count p (tails m)))
+      (λ (e n : ℕ) (c : ⊥ × ((s : ℕ) × Counted p (tails m) e n s)). c .0) 0 0 (integrate p r0 v0) h
+  fate-meets (runs-out m) r0 v0 h =
+      always-follows (clockwork p (runs-out m)) (expecting (ofFate p (runs-out m)))
+      (λ (n : ℕ) (t : Float) (c : (p .settings .samples ≡ true) × (n ≤ stepsOf (runs-out m)) × (t ≡ sampleTime p (runs-out m) n)). tt)
+      (λ (e n : ℕ) (t : Float) (steps startups : ℕ) (c : ⊥ × Counted p (runs-out m) e n startups). c .0)
+      (λ (e n : ℕ) (c : Unit {0} × ((s : ℕ) × Counted p (runs-out m) e n s)). met (runs-out m) e n (c .1 .0) (c .1 .1)) 0 0 (integrate p r0 v0) h
+
+module _ (s : Settings) (t0 tf : Float) (r0 v0 : Triple) (never : NeverStops (planOf s t0 tf)) where
+  meets-fate : (f : Fate) → Always (clockwork (planOf s t0 tf) f) 0 0 (integrate (planOf s t0 tf) r0 v0) → Meets s t0 tf r0 v0 (ofFate (planOf s t0 tf) f)
+  unfolding ofFate
+  meets-fate (arrives u m) h = fate-meets (planOf s t0 tf) never (arrives u m) r0 v0 h
+  meets-fate (tails m) h = fate-meets (planOf s t0 tf) never (tails m) r0 v0 h
+  meets-fate (runs-out m) h = fate-meets (planOf s t0 tf) never (runs-out m) r0 v0 h
+
+  run-is : fateOf (planOf s t0 tf) ≡ runFate (planOf s t0 tf)
+  unfolding runFate fateOf
+  run-is = sym (fate-run _ _ _ _)
+
+  foretells : Meets s t0 tf r0 v0 (foretold s t0 tf)
+  unfolding foretold
+  foretells = go (withinLimits s) (tooNear (planOf s t0 tf)) refl refl
+    where
+      go : (a b : Bool) → withinLimits s ≡ a → tooNear (planOf s t0 tf) ≡ b
+          → Meets s t0 tf r0 v0 (cond a (cond b (no-run 1) (ofFate (planOf s t0 tf) (runFate (planOf s t0 tf)))) (no-run 5))
+      go true true h k = too-near s t0 tf r0 v0 h k
+      go true false h k = meets-fate (runFate (planOf s t0 tf))
+          (subst (λ (f : Fate). Always (clockwork (planOf s t0 tf) f) 0 0 (integrate (planOf s t0 tf) r0 v0)) run-is (by-the-clock (planOf s t0 tf) r0 v0))
+      go false b h k = over-limit s t0 tf r0 v0 b h k
+
+-- ---- all rows
+unfoldable neverAll : List Row → Bool
+neverAll [] = true
+neverAll (r ∷ rs) = le (r .settings .«startup_tol») nought && (le (r .settings .«corrector_tol») nought && neverAll rs)
+
+both : (a b : Bool) → a && b ≡ true → (a ≡ true) × (b ≡ true)
+both true b h = (refl, h)
+both false b h = absurd (false≢true h)
+
+first : List Expected → Expected
+first [] = no-run 0
+first (x ∷ xs) = x
+
+later : List Expected → List Expected
+later [] = []
+later (x ∷ xs) = xs
+
+all-meet : (r0 v0 : Triple) (rs : List Row) → neverAll rs ≡ true → foretoldRows rs ≡ expectedRows rs → AllMeet r0 v0 rs
+unfolding AllMeet neverAll foretoldRows expectedRows planOf first later
+all-meet r0 v0 [] n h = tt
+all-meet r0 v0 (r ∷ rs) n h =
+    let a = both (le (r .settings .«startup_tol») nought) (le (r .settings .«corrector_tol») nought && neverAll rs) n in
+    let b = both (le (r .settings .«corrector_tol») nought) (neverAll rs) (a .1) in
+    (subst (Meets (r .settings) (r .t0) (r .tf) r0 v0) (ap first h) (foretells (r .settings) (r .t0) (r .tf) r0 v0 (record { startup = a .0; corrector = b .0 })),
+    all-meet r0 v0 rs (b .1) (ap later h))
+
+never-all : neverAll starredRows ≡ true
+unfolding neverAll le lt eq
+never-all = refl
+
+-- the examples marked * in 01, whatever the accelerations are
+pub starred : (r0 v0 : Triple) → AllMeet r0 v0 starredRows
+starred r0 v0 = all-meet r0 v0 starredRows never-all rows-agree

@@ -1,0 +1,96 @@
+-- 01, "Examples at the edges": those marked *, as one table. The proof is `starred` in proofs/Starred.antt.
+use mathlib.Core.Path.{_≡_}
+use Prim.Native.Nat.{ℕ, zero, suc, _+_}
+use mathlib.Core.Bool.{Bool, true, false}
+use mathlib.Core.List.{List, [], _∷_}
+use lib.IntN.{ℤ, pos, negsuc}
+use lib.ListN.{length}
+use lib.Ieee.{Float, nan, binary64, ofInt}
+use Rattle.triple.specs.declared.Triple.{Triple}
+use Rattle.triple.specs.Arithmetic.{nought}
+use Rattle.run.specs.declared.Settings.{Settings}
+use Rattle.run.specs.Plan.{planOf}
+use Rattle.rules.specs.Rules.{integrate}
+use Rattle.rules.specs.Walk.{refused, begin}
+use Rattle.counting.specs.Paths.{Claims, Always}
+
+-- what must come out, whatever the accelerations are
+pub data Expected : Type 0 where
+  no-run : (refusal : ℕ) → Expected  -- the start is refused
+  finishes : (t : Float) → (steps answers : ℕ) → (times : List Float) → Expected  -- and the times of all samples
+  exceeds-at : (answers : ℕ) → Expected  -- refusal 2 to this answer
+
+-- number n of a row
+unfoldable pub At : List Float → ℕ → Float → Type 0
+At [] n x = ⊥
+At (t ∷ ts) zero x = x ≡ t
+At (t ∷ ts) (suc n) x = At ts n x
+
+unfoldable pub expecting : Expected → Claims
+expecting (no-run i) = record { sample = λ (n : ℕ) (x : Float). ⊥; finish = λ (e n : ℕ) (x : Float) (k s : ℕ). ⊥; excess = λ (e n : ℕ). ⊥ }
+expecting (finishes t steps answers times) =
+    record {
+      sample = At times;
+      finish = λ (e n : ℕ) (x : Float) (k s : ℕ). (x ≡ t) × (k ≡ steps) × (e ≡ answers) × (n ≡ length times);
+      excess = λ (e n : ℕ). ⊥;
+    }
+expecting (exceeds-at answers) =
+    record { sample = λ (n : ℕ) (x : Float). Unit {0}; finish = λ (e n : ℕ) (x : Float) (k s : ℕ). ⊥; excess = λ (e n : ℕ). e ≡ answers }
+
+abbrev pub Meets : Settings → Float → Float → Triple → Triple → Expected → Type 0
+Meets s t0 tf r0 v0 (no-run i) = begin s t0 tf r0 v0 .said ≡ refused i
+Meets s t0 tf r0 v0 (finishes t steps answers times) = Always (expecting (finishes t steps answers times)) 0 0 (integrate (planOf s t0 tf) r0 v0)
+Meets s t0 tf r0 v0 (exceeds-at answers) = Always (expecting (exceeds-at answers)) 0 0 (integrate (planOf s t0 tf) r0 v0)
+
+-- ---- the table
+pub record Row : Type 0 where
+  pub settings : Settings
+  pub t0 : Float
+  pub tf : Float
+  pub expected : Expected
+
+abbrev whole : ℕ → Float
+whole n = ofInt binary64 (pos n)
+
+-- "S = 1, C = 1, tolerances 0, no samples unless said"
+abbrev set : ℤ → ℕ → Bool → Settings
+set h limit samples =
+    record {
+      h = ofInt binary64 h;
+      «corrector_tol» = nought;
+      «startup_tol» = nought;
+      «max_corrector_iters» = 1;
+      «max_startup_iters» = 1;
+      «max_steps» = limit;
+      samples = samples;
+    }
+
+abbrev row : ℕ → Float → ℤ → ℕ → Bool → Expected → Row
+row t0 tf h limit samples e = record { settings = set h limit samples; t0 = whole t0; tf = tf; expected = e }
+
+abbrev limit : ℕ
+limit = 1_000_000
+
+-- start, end, h, max_steps, samples
+abbrev pub starredRows : List Row
+starredRows =
+    row 0 (whole 8) (pos 1) limit false (finishes (whole 8) 8 57 [])
+    ∷ row 0 (whole 9) (pos 1) limit false (finishes (whole 9) 9 59 [])
+    ∷ row 0 (whole 17) (pos 2) limit false (finishes (whole 17) 9 61 [])
+    ∷ row 0 (whole 17) (pos 2) limit true
+    (finishes (whole 17) 9 62 (whole 0 ∷ whole 2 ∷ whole 4 ∷ whole 6 ∷ whole 8 ∷ whole 10 ∷ whole 12 ∷ whole 14 ∷ whole 16 ∷ whole 17 ∷ []))
+    ∷ row 0 (whole 15) (pos 2) limit false (no-run 1)
+    ∷ row 0 (whole 16) (pos 2) limit false (finishes (whole 16) 8 57 [])
+    ∷ row 100 (whole 20) (negsuc 9) limit true
+    (finishes (whole 20) 8 57 (whole 100 ∷ whole 90 ∷ whole 80 ∷ whole 70 ∷ whole 60 ∷ whole 50 ∷ whole 40 ∷ whole 30 ∷ whole 20 ∷ []))
+    ∷ row 7 (whole 7) (pos 1) limit false (no-run 1)
+    ∷ row 0 (whole 8) (pos 0) limit false (no-run 1)
+    ∷ row 0 (whole 8) (pos 1) 7 false (exceeds-at 55)
+    ∷ row 0 (whole 8) (pos 1) 4 false (exceeds-at 49)
+    ∷ row 0 (whole 8) (pos 1) 0 false (exceeds-at 49)
+    ∷ row 0 nan (pos 1) limit false (finishes (ofInt binary64 (negsuc 3)) 4 49 [])
+    ∷ []
+
+unfoldable pub AllMeet : Triple → Triple → List Row → Type 0
+AllMeet r0 v0 [] = Unit {0}
+AllMeet r0 v0 (r ∷ rs) = Meets (r .settings) (r .t0) (r .tf) r0 v0 (r .expected) × AllMeet r0 v0 rs
