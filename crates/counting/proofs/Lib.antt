@@ -12,3 +12,4 @@ pub mod Lines
 pub mod Starts
 pub mod Runs
 pub mod Starred
+pub mod Standstill

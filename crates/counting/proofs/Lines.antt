@@ -1,12 +1,11 @@
 -- A line of calls along a tree on which the claims hold: it never meets 6 or 2, and it finishes as claimed.
 use mathlib.Core.Path.{_≡_, refl, sym, ap, _∙_, subst}
 use mathlib.Core.Logic.{_⊎_, inl, inr}
-use Prim.Native.Nat.{ℕ, zero, suc, _+_, _*_, _%_, _≤_, _<_}
-use native.Mathlib.Nat.{mul-le-mul-left}
+use Prim.Native.Nat.{ℕ, _+_, _*_, _%_, _≤_}
 use native.Mathlib.Omega.{arith}
-use mathlib.Core.Bool.{Bool, true, false, not, cond}
+use mathlib.Core.Bool.{Bool, true, false, cond}
 use mathlib.Core.List.{List, [], _∷_, _++_}
-use lib.Dec.{T, eqb}
+use lib.Dec.{eqb}
 use lib.ListN.{length, length-set, length-append}
 use lib.Ieee.{Float}
 use borrow.Author.Tests.{le-leb}
@@ -17,7 +16,7 @@ use Rattle.triple.specs.declared.Sample.{Sample}
 use Rattle.triple.specs.Arithmetic.{zeros}
 use Rattle.run.specs.Samples.{fits, put, putAll}
 use Rattle.rules.specs.Rules.{Course, asks, stores, ends, exceeds}
-use Rattle.rules.specs.Walk.{Said, question, finished, refused, Call, Result, Line, open-at, over, Stop, settle, turn, walk}
+use Rattle.rules.specs.Walk.{question, finished, refused, Call, open-at, over, Stop, settle, turn, walk}
 use Rattle.counting.specs.Paths.{Claims, Each, Always}
 use Rattle.counting.specs.Runs.{Adds, Over, Tells, Going, Roomy}
 

@@ -1,22 +1,18 @@
 -- Demand 3 of runs, from the theorem on trees and from `follows-the-rules`.
-use mathlib.Core.Path.{_≡_, refl, sym, ap, _∙_, subst}
-use Prim.Native.Nat.{ℕ, _+_, _≤_}
+use mathlib.Core.Path.{sym, ap, _∙_, subst}
+use Prim.Native.Nat.{ℕ}
 use native.Mathlib.Omega.{arith}
-use mathlib.Core.Bool.{Bool, true, false, cond}
 use mathlib.Core.List.{List, []}
 use lib.IntN.{ℤ, natAbs}
 use lib.Ieee.{Float}
 use Rattle.triple.specs.declared.Triple.{Triple}
-use Rattle.triple.specs.declared.Point.{Point}
 use Rattle.run.specs.declared.Settings.{Settings}
-use Rattle.run.specs.Plan.{withinLimits, planOf, tooNear}
-use Rattle.gauss_jackson.specs.Answers.{started}
-use Rattle.rules.specs.Rules.{Course, asks, integrate}
-use Rattle.rules.specs.Walk.{Said, question, refused, Call, Result, over, Stop, settle, walk, begin}
-use Rattle.rules.specs.Follows.{played}
+use Rattle.run.specs.Plan.{planOf}
+use Rattle.rules.specs.Rules.{integrate}
+use Rattle.rules.specs.Walk.{Call, Stop, settle, walk}
 use Rattle.rules.proofs.Follows.{follows-the-rules}
-use Rattle.counting.specs.Paths.{Claims, Always}
-use Rattle.counting.specs.Counting.{spanOf, mostBefore, Bounds, OnTime, onTime, EndsOnTime}
+use Rattle.counting.specs.Paths.{Always}
+use Rattle.counting.specs.Counting.{spanOf, mostBefore, Bounds, OnTime, onTime}
 use Rattle.counting.specs.Runs.{Going, Roomy, roomFor, FinishesOnTime}
 use Rattle.counting.proofs.OnTime.{ends-on-time}
 use Rattle.counting.proofs.Lines.{Limits, going}

@@ -1,6 +1,6 @@
 -- With both tolerances zero or less what comes out is foretold by the clock; the table is one computed test of that.
 use mathlib.Core.Path.{_≡_, refl, sym, ap, _∙_, subst}
-use Prim.Native.Nat.{ℕ, zero, suc, _+_, _-_, _*_, _≤_, _<_}
+use Prim.Native.Nat.{ℕ, zero, suc, _+_, _-_, _≤_, _<_}
 use native.Mathlib.Omega.{arith}
 use mathlib.Core.Bool.{Bool, true, false, _&&_, cond, false≢true}
 use mathlib.Core.List.{List, [], _∷_}
@@ -16,8 +16,7 @@ use Rattle.run.specs.Plan.{withinLimits, direction, planOf, tooNear}
 use Rattle.run.specs.Formulas.{remains, goesOn, isShort}
 use Rattle.rules.specs.Rules.{integrate}
 use Rattle.rules.specs.Asked.{clock}
-use Rattle.rules.specs.Walk.{begin}
-use Rattle.counting.specs.Paths.{Claims, Always}
+use Rattle.counting.specs.Paths.{Always}
 use Rattle.counting.specs.Clockwork.{Fate, arrives, tails, runs-out, fateFrom, fateOf, stepsOf, plainSteps, tailAnswers, most, NeverStops, Counted, gridTime, sampleTime, clockwork}
 use Rattle.counting.proofs.Starts.{too-near, over-limit}
 use Rattle.counting.proofs.Claims.{always-follows}
@@ -173,9 +172,10 @@ unfolding AllMeet neverAll foretoldRows expectedRows planOf first later
 all-meet r0 v0 [] n h = tt
 all-meet r0 v0 (r ∷ rs) n h =
     let a = both (le (r .settings .«startup_tol») nought) (le (r .settings .«corrector_tol») nought && neverAll rs) n in
-    let b = both (le (r .settings .«corrector_tol») nought) (neverAll rs) (a .1) in
-    (subst (Meets (r .settings) (r .t0) (r .tf) r0 v0) (ap first h) (foretells (r .settings) (r .t0) (r .tf) r0 v0 (record { startup = a .0; corrector = b .0 })),
-    all-meet r0 v0 rs (b .1) (ap later h))
+    let b = both (le (r .settings .«corrector_tol») nought) (neverAll rs) (a .1) in (
+      subst (Meets (r .settings) (r .t0) (r .tf) r0 v0) (ap first h) (foretells (r .settings) (r .t0) (r .tf) r0 v0 (record { startup = a .0; corrector = b .0 })),
+      all-meet r0 v0 rs (b .1) (ap later h),
+    )
 
 never-all : neverAll starredRows ≡ true
 unfolding neverAll le lt eq

@@ -1,15 +1,15 @@
 -- 01, "Examples at the edges": those marked *, as one table. The proof is `starred` in proofs/Starred.antt.
 use mathlib.Core.Path.{_≡_}
-use Prim.Native.Nat.{ℕ, zero, suc, _+_}
+use Prim.Native.Nat.{ℕ, zero, suc}
 use mathlib.Core.Bool.{Bool, true, false}
 use mathlib.Core.List.{List, [], _∷_}
 use lib.IntN.{ℤ, pos, negsuc}
 use lib.ListN.{length}
-use lib.Ieee.{Float, nan, binary64, ofInt}
+use lib.Ieee.{Float, nan, inf, fin, binary64, ofInt, eq, isNan}
 use Rattle.triple.specs.declared.Triple.{Triple}
 use Rattle.triple.specs.Arithmetic.{nought}
 use Rattle.run.specs.declared.Settings.{Settings}
-use Rattle.run.specs.Plan.{planOf}
+use Rattle.run.specs.Plan.{withinLimits, planOf}
 use Rattle.rules.specs.Rules.{integrate}
 use Rattle.rules.specs.Walk.{refused, begin}
 use Rattle.counting.specs.Paths.{Claims, Always}
@@ -94,3 +94,18 @@ starredRows =
 unfoldable pub AllMeet : Triple → Triple → List Row → Type 0
 AllMeet r0 v0 [] = Unit {0}
 AllMeet r0 v0 (r ∷ rs) = Meets (r .settings) (r .t0) (r .tf) r0 v0 (r .expected) × AllMeet r0 v0 rs
+
+-- ---- "t0 = tf, and h 0: refusal 1", for all starts: the table has one row of each
+unfoldable pub isFinite : Float → Bool
+isFinite nan = false
+isFinite (inf s) = false
+isFinite (fin s m e) = true
+
+-- a start that is the end too, where it is finite and h is no NaN: elsewhere span/h is NaN, which is not below 8
+abbrev pub NoSpan : Type 0
+NoSpan =
+    (s : Settings) (t0 : Float) (r0 v0 : Triple) → withinLimits s ≡ true → isFinite t0 ≡ true → isNan (s .h) ≡ false
+    → begin s t0 t0 r0 v0 .said ≡ refused 1
+
+abbrev pub NoStep : Type 0
+NoStep = (s : Settings) (t0 tf : Float) (r0 v0 : Triple) → withinLimits s ≡ true → eq (s .h) nought ≡ true → begin s t0 tf r0 v0 .said ≡ refused 1
