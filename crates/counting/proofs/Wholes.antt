@@ -64,13 +64,13 @@ down-span z0 zf h =
 
 module _ {s : Settings} {t0 tf : Float} {z0 zf hz : ℤ} (b : Bounds s t0 tf z0 zf hz) where
   start-holds : Holds t0 z0
-  start-holds = read z0 (wider (2 ^ 50) (2 ^ 53) z0 (omega arith) (within (2 ^ 50) z0 (b .start-size))) (b .start-whole)
+  start-holds = read z0 (wider _ (2 ^ 53) z0 (omega arith) (within _ z0 (b .start-size))) (b .start-whole)
 
   end-holds : Holds tf zf
-  end-holds = read zf (wider (2 ^ 50) (2 ^ 53) zf (omega arith) (within (2 ^ 50) zf (b .end-size))) (b .end-whole)
+  end-holds = read zf (wider _ (2 ^ 53) zf (omega arith) (within _ zf (b .end-size))) (b .end-whole)
 
   step-holds : Is (absolute (s .h)) (natAbs hz) 0
-  step-holds = abs-int hz (read hz (wider (10 ^ 9) (2 ^ 53) hz (omega arith) (within (10 ^ 9) hz (b .step-size))) (b .step-whole))
+  step-holds = abs-int hz (read hz (wider _ (2 ^ 53) hz (omega arith) (within _ hz (b .step-size))) (b .step-whole))
 
   ordered : le t0 tf ≡ leZ z0 zf
   ordered = le-int z0 zf start-holds end-holds
@@ -87,8 +87,8 @@ module _ {s : Settings} {t0 tf : Float} {z0 zf hz : ℤ} (b : Bounds s t0 tf z0 
   unfolding planOf
   up h =
       let e = up-span z0 zf h in
-      let u = within (2 ^ 50) z0 (b .start-size) in
-      let v = within (2 ^ 50) zf (b .end-size) in
+      let u = within _ z0 (b .start-size) in
+      let v = within _ zf (b .end-size) in
       let u1 = u .1 in
       let v0 = v .0 in
       let k = b .step-size in
@@ -108,8 +108,8 @@ module _ {s : Settings} {t0 tf : Float} {z0 zf hz : ℤ} (b : Bounds s t0 tf z0 
   unfolding planOf
   down h =
       let e = down-span z0 zf h in
-      let u = within (2 ^ 50) z0 (b .start-size) in
-      let v = within (2 ^ 50) zf (b .end-size) in
+      let u = within _ z0 (b .start-size) in
+      let v = within _ zf (b .end-size) in
       let u0 = u .0 in
       let v1 = v .1 in
       let k = b .step-size in

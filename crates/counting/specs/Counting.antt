@@ -62,13 +62,17 @@ unfoldable pub whenFor : (z0 zf : ℤ) (step n : ℕ) → ℤ
 whenFor z0 zf step n =
     cond (ltb n (stepsFor (spanOf z0 zf) step)) (cond (leZ z0 zf) (z0 +ℤ pos (n * step)) (z0 -ℤ pos (n * step))) zf
 
+-- "at most 2^50 in size"
+abbrev pub farthest : ℕ
+farthest = 2 ^ 50
+
 -- "Bounds: t0, tf whole, at most 2^50 in size; h whole, 1 to 10^9 in size"; and eight steps at least, settings within the limits, steps enough
 pub record Bounds (s : Settings) (t0 tf : Float) (z0 zf hz : ℤ) : Type 0 where
   pub start-whole : IsWhole t0 z0
   pub end-whole : IsWhole tf zf
   pub step-whole : IsWhole (s .h) hz
-  pub start-size : natAbs z0 ≤ 2 ^ 50
-  pub end-size : natAbs zf ≤ 2 ^ 50
+  pub start-size : natAbs z0 ≤ farthest
+  pub end-size : natAbs zf ≤ farthest
   pub step-size : natAbs hz ≤ 10 ^ 9
   pub moves : 1 ≤ natAbs hz
   pub far : 8 * natAbs hz ≤ spanOf z0 zf
