@@ -1,0 +1,34 @@
+// 01: "a run lent by the caller and moved on where it stands". Each function calls the one by value and stores the run back.
+use gauss_jackson::Outcome;
+use run::Run;
+use run::Settings;
+use triple::Triple;
+ghost use mathlib.Core.Path.{_≡_};
+ghost use Rattle.gauss_jackson.specs.Answers.{started, answered};
+
+// A start: the lent run becomes the started one, or an ended one where the start is refused.
+pub fn start_lent(
+    run: &mut Run,
+    settings: Settings,
+    t0: f64,
+    tf: f64,
+    r0: Triple,
+    v0: Triple,
+) -> Outcome
+    ensures { λ r. ⌜ (r ≡ started settings t0 tf r0 v0 .outcome) × (now (run .exit) ≡ started settings t0 tf r0 v0 .run) ⌝ }
+{
+    let done = gauss_jackson::start(settings, t0, tf, r0, v0);
+    *run = done.run;
+    done.outcome
+}
+
+// An answer: the lent run moves on, or stays as it is where the answer is refused by 7 or 8.
+pub fn answer_lent(run: &mut Run, number: u16, a: Triple, out: &mut [f64]) -> Outcome
+    ensures { λ r. ⌜ (r ≡ answered (now (run .entry)) number a (now (out .entry)) .got .outcome)
+        × (now (run .exit) ≡ answered (now (run .entry)) number a (now (out .entry)) .got .run)
+        × (now (out .exit) ≡ answered (now (run .entry)) number a (now (out .entry)) .out) ⌝ }
+{
+    let done = gauss_jackson::answer(*run, number, a, out);
+    *run = done.run;
+    done.outcome
+}
