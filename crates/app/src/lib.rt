@@ -1,0 +1,168 @@
+// What an app links: the whole run and the samples between, for C and for Rust. Thin over the proved functions, and proved themselves.
+// No function here depends on its caller's care beyond what a pointer needs; include/gauss_jackson.h says that, and the layouts.
+use gauss_jackson::Outcome;
+use gauss_jackson::Question;
+use gauss_jackson::Solution;
+use refusals::Refusal;
+use run::Run;
+use run::Settings;
+use triple::Triple;
+ghost use mathlib.Core.Path.{_≡_};
+ghost use Rattle.gauss_jackson.specs.Answers.{started, answered, openQuestion};
+ghost use Rattle.run.specs.Plan.{defaultSettings};
+ghost use Rattle.app.specs.Reply.{replyOf, asksFor, finishedAt, refusedBy, repliedOf};
+
+// An outcome in plain numbers. `kind` is 0 for a question, 1 for the finished state, 2 for a refusal; what a kind has no use for is zero.
+#[repr(C)]
+pub struct Reply {
+    pub t: f64,
+    pub r: Triple,
+    pub v: Triple,
+    pub evals: u64,
+    pub steps: u64,
+    pub startup_iters: u64,
+    pub kind: u32,
+    pub refusal: u16,
+    pub number: u16,
+}
+
+// The run to go on with, and the reply.
+#[repr(C)]
+pub struct Replied {
+    pub run: Run,
+    pub reply: Reply,
+}
+
+fn asks_for(question: Question) -> Reply
+    ensures { λ x. ⌜ x ≡ asksFor question ⌝ }
+{
+    let r = question.r;
+    let v = question.v;
+    Reply {
+        t: question.t,
+        r,
+        v,
+        evals: 0,
+        steps: 0,
+        startup_iters: 0,
+        kind: 0,
+        refusal: 0,
+        number: question.number,
+    }
+}
+
+fn finished_at(solution: Solution) -> Reply
+    ensures { λ x. ⌜ x ≡ finishedAt solution ⌝ }
+{
+    let r = solution.r;
+    let v = solution.v;
+    Reply {
+        t: solution.t,
+        r,
+        v,
+        evals: solution.evals,
+        steps: solution.steps,
+        startup_iters: solution.startup_iters,
+        kind: 1,
+        refusal: 0,
+        number: 0,
+    }
+}
+
+fn refused_by(refusal: Refusal) -> Reply
+    ensures { λ x. ⌜ x ≡ refusedBy refusal ⌝ }
+{
+    let number = refusals::number_of(refusal);
+    let nothing = Triple::zero();
+    Reply {
+        t: 0.0,
+        r: nothing,
+        v: nothing,
+        evals: 0,
+        steps: 0,
+        startup_iters: 0,
+        kind: 2,
+        refusal: number as u16,
+        number: 0,
+    }
+}
+
+fn reply_of(outcome: Outcome) -> Reply
+    ensures { λ x. ⌜ x ≡ replyOf outcome ⌝ }
+{
+    match outcome {
+        Outcome::Ask(question) => asks_for(question),
+        Outcome::Done(solution) => finished_at(solution),
+        Outcome::Refused(refusal) => refused_by(refusal),
+    }
+}
+
+fn started_by(settings: Settings, t0: f64, tf: f64, r0: Triple, v0: Triple) -> Replied
+    ensures { λ x. ⌜ x ≡ repliedOf (started settings t0 tf r0 v0) ⌝ }
+{
+    let done = gauss_jackson::start(settings, t0, tf, r0, v0);
+    let run = done.run;
+    let outcome = done.outcome;
+    let reply = reply_of(outcome);
+    Replied { run, reply }
+}
+
+fn answered_by(run: Run, number: u16, a: Triple, out: &mut [f64]) -> Replied
+    ensures { λ x. ⌜ (x ≡ repliedOf (answered run number a (now (out .entry)) .got)) × (now (out .exit) ≡ answered run number a (now (out .entry)) .out) ⌝ }
+{
+    let done = gauss_jackson::answer(run, number, a, out);
+    let next = done.run;
+    let outcome = done.outcome;
+    let reply = reply_of(outcome);
+    Replied { run: next, reply }
+}
+
+fn open_in(run: Run) -> Reply
+    ensures { λ x. ⌜ x ≡ replyOf (openQuestion run) ⌝ }
+{
+    reply_of(gauss_jackson::open_question(run))
+}
+
+#[no_mangle]
+pub extern "C" fn gj_default_settings() -> Settings
+    ensures { λ s. ⌜ s ≡ defaultSettings ⌝ }
+{
+    gauss_jackson::default_settings()
+}
+
+// A start: the lent run becomes the started one, or an ended one where the start is refused.
+#[no_mangle]
+pub extern "C" fn gj_start(
+    run: &mut Run,
+    settings: Settings,
+    t0: f64,
+    tf: f64,
+    r0: Triple,
+    v0: Triple,
+) -> Reply
+    ensures { λ x. ⌜ (x ≡ replyOf (started settings t0 tf r0 v0 .outcome)) × (now (run .exit) ≡ started settings t0 tf r0 v0 .run) ⌝ }
+{
+    let done = started_by(settings, t0, tf, r0, v0);
+    *run = done.run;
+    done.reply
+}
+
+// An answer: the lent run moves on, or stays as it is where the answer is refused by 7 or 8. `out` is the sample buffer.
+#[no_mangle]
+pub extern "C" fn gj_answer(run: &mut Run, number: u16, a: Triple, out: &mut [f64]) -> Reply
+    ensures { λ x. ⌜ (x ≡ replyOf (answered (now (run .entry)) number a (now (out .entry)) .got .outcome))
+        × (now (run .exit) ≡ answered (now (run .entry)) number a (now (out .entry)) .got .run)
+        × (now (out .exit) ≡ answered (now (run .entry)) number a (now (out .entry)) .out) ⌝ }
+{
+    let done = answered_by(*run, number, a, out);
+    *run = done.run;
+    done.reply
+}
+
+// The question that the run waits for, once more; refusal 7 where there is none.
+#[no_mangle]
+pub extern "C" fn gj_open_question(run: &Run) -> Reply
+    ensures { λ x. ⌜ x ≡ replyOf (openQuestion (now (run .entry))) ⌝ }
+{
+    open_in(*run)
+}
