@@ -181,6 +181,14 @@ fn edges() -> Vec<Case> {
     ]
 }
 
+/// 01's year, all passes made, under a pull towards the centre that goes round in about an hour and a half.
+fn year() -> Case {
+    like("year", |c| {
+        (c.tf, c.h, c.max_startup, c.max_corrector, c.max_steps) = (31536000.0, 60.0, 12, 2, 1000000);
+        c.p = [-1.28e-6, 0.0, 0.0, 0.0];
+    })
+}
+
 /// The corners that are easy to misread.
 fn corners() -> Vec<Case> {
     let inf = f64::INFINITY;
@@ -254,6 +262,8 @@ pub fn list(out: &mut impl Write) -> io::Result<()> {
     for c in edges().iter().chain(&corners()).chain(&grids()) {
         writeln!(out, "{}", c.line())?;
     }
+    writeln!(out, "\n# The year of one-minute steps, by its end: 525,600 steps, 1,576,925 answers.")?;
+    writeln!(out, "{}", year().line().replacen("case", "final", 1))?;
     writeln!(out, "\n# Misshapen lines.")?;
     for line in BAD {
         writeln!(out, "{line}")?;

@@ -125,18 +125,17 @@ impl Case {
         }
     }
 
-    /// Runs the module, prints the transcript, and hands back the samples of a finished run.
-    fn play(&self, out: &mut impl Write) -> io::Result<Option<Samples>> {
-        writeln!(out, "case {}", self.name)?;
+    /// Runs the module, prints the transcript, whole or its end alone, and hands back the samples of a finished run.
+    fn play(&self, whole: bool, out: &mut impl Write) -> io::Result<Option<Samples>> {
+        writeln!(out, "{} {}", if whole { "case" } else { "final" }, self.name)?;
         let mut source = Source::new(self.force, self.p);
         let mut asked = 0u16;
         let mut failed = Ok(());
         let r0 = V3::from_array(self.r0);
         let v0 = V3::from_array(self.v0);
         let force = |t: f64, r: &V3, v: &V3| {
-            let line = format!("ask {} {}{}{}", asked, hex(t), floats(&three(r)), floats(&three(v)));
-            if failed.is_ok() {
-                failed = writeln!(out, "{line}");
+            if whole && failed.is_ok() {
+                failed = writeln!(out, "ask {} {}{}{}", asked, hex(t), floats(&three(r)), floats(&three(v)));
             }
             asked = asked.wrapping_add(1);
             source.answer(t, r, v)
@@ -149,7 +148,7 @@ impl Case {
                 Ok(None)
             }
             Ok(s) => {
-                if let Some(d) = &s.dense {
+                if let Some(d) = s.dense.as_ref().filter(|_| whole) {
                     for n in 0..d.t.len() {
                         let (r, v, a) = (three(&d.r[n]), three(&d.v[n]), three(&d.a[n]));
                         writeln!(out, "sample {n} {}{}{}{}", hex(d.t[n]), floats(&r), floats(&v), floats(&a))?;
@@ -203,8 +202,8 @@ fn take(words: &[&str], samples: &mut Samples, out: &mut impl Write) -> io::Resu
     };
     let times: Option<Vec<f64>> = rest.iter().map(|w| read_float(w)).collect();
     match (*kind, times) {
-        ("case", _) => match Case::read(rest) {
-            Some(case) => *samples = case.play(out)?.unwrap_or_else(empty),
+        ("case" | "final", _) => match Case::read(rest) {
+            Some(case) => *samples = case.play(*kind == "case", out)?.unwrap_or_else(empty),
             None => return Ok(false),
         },
         ("table", _) => match read_table(rest) {

@@ -73,19 +73,27 @@ fn deal_with(place: Place, line: &[u8], samples: &mut [f64]) -> usize {
         return place.held;
     }
     if words::is_text(line, first, b"case") {
-        return deal_with_case(place, line, first.end, samples);
+        return deal_with_case(place, line, first.end, true, samples);
+    }
+    if words::is_text(line, first, b"final") {
+        return deal_with_case(place, line, first.end, false, samples);
     }
     text::print_bad(place.number);
     place.held
 }
 
-fn deal_with_case(place: Place, line: &[u8], at: usize, samples: &mut [f64]) -> usize {
+// A `case` is told whole; of a `final` only the end is, so that a year can stand in a list.
+fn deal_with_case(place: Place, line: &[u8], at: usize, whole: bool, samples: &mut [f64]) -> usize {
     let read = case::read(line, at);
     if !read.ok {
         text::print_bad(place.number);
         return place.held;
     }
     let name = words::next_word(line, at);
-    text::print_named(b"case ", line, name);
-    play::play(read, samples)
+    if whole {
+        text::print_named(b"case ", line, name);
+    } else {
+        text::print_named(b"final ", line, name);
+    }
+    play::play(read, whole, samples)
 }

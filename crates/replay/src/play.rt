@@ -12,9 +12,11 @@ pub struct Playing {
     pub force: Force,
 }
 
-// One question: told, and answered.
-fn play_on(q: Question, playing: Playing, samples: &mut [f64]) -> Playing {
-    text::print_ask(q);
+// One question: told, unless only the end is wanted, and answered.
+fn play_on(q: Question, playing: Playing, whole: bool, samples: &mut [f64]) -> Playing {
+    if whole {
+        text::print_ask(q);
+    }
     let told = force::answer(playing.force, q.t, q.r, q.v);
     let now = gauss_jackson::answer(playing.now.run, q.number, told.a, samples);
     let force = told.force;
@@ -43,8 +45,8 @@ fn print_samples(held: usize, samples: &[f64]) {
     }
 }
 
-// Plays a case, and says how many numbers of samples it leaves.
-pub fn play(case: Case, samples: &mut [f64]) -> usize {
+// Plays a case, and says how many numbers of samples it leaves. The transcript is whole, or its end alone.
+pub fn play(case: Case, whole: bool, samples: &mut [f64]) -> usize {
     let first = gauss_jackson::start(case.settings, case.t0, case.tf, case.r0, case.v0);
     let force = case.force;
     let mut playing = Playing { now: first, force };
@@ -54,11 +56,13 @@ pub fn play(case: Case, samples: &mut [f64]) -> usize {
         let outcome = now.outcome;
         match outcome {
             Outcome::Ask(q) => {
-                playing = play_on(q, playing, samples);
+                playing = play_on(q, playing, whole, samples);
             }
             Outcome::Done(s) => {
                 let held = stored(case, s.steps, samples);
-                print_samples(held, samples);
+                if whole {
+                    print_samples(held, samples);
+                }
                 text::print_done(s);
                 return held;
             }

@@ -7,10 +7,10 @@ use Rattle.replay.proofs.play.play.Statement.{statement}
 use Rattle.replay.proofs.play.play.Tie as tie
 
 abbrev Inv-loop : tie.InvT-loop
-Inv-loop case samples₀ playing₀ turns₀ samples playing turns = length samples ≡ length samples₀
+Inv-loop case whole samples₀ playing₀ turns₀ samples playing turns = length samples ≡ length samples₀
 
 abbrev μ-loop : tie.MeasureT-loop
-μ-loop case samples₀ playing₀ turns₀ samples playing turns = 0x1000_0000_0000 - turns
+μ-loop case whole samples₀ playing₀ turns₀ samples playing turns = 0x1000_0000_0000 - turns
 
 pub play-spec : {M : Type 1} → statement M
 play-spec =
