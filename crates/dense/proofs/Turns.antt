@@ -1,0 +1,75 @@
+-- One turn of each loop, said of the definition that the loop works out.
+use Prim.Native.Nat.{ℕ, suc, _+_, _-_, _*_, _/_, _<_, _≤_}
+use mathlib.Core.Path.{_≡_, refl, sym, ap, _∙_}
+use mathlib.Core.Bool.{Bool, true, false, cond}
+use mathlib.Core.List.{List, [], _∷_}
+use native.Mathlib.Omega.{arith}
+use native.Mathlib.Numerals.{add-one}
+use lib.Dec.{ltb}
+use lib.ListN.{length, getD, drop}
+use lib.Seq.{drop-cons}
+use lib.Ieee.{Float, nan}
+use borrow.Author.Tests.{lt-ltb, le-ltb, ltb-true, ltb-false}
+use Rattle.dense.specs.declared.interval.Ends.{Ends}
+use Rattle.dense.specs.Table.{timeOf}
+use Rattle.dense.specs.Intervals.{reached, firstPast, short, walkOn, walkedTo}
+use Rattle.dense.specs.Interpolation.{outside, anyOutside, valueAt, put, putEach}
+
+one-left : (m n : ℕ) → n < m → m - n ≡ suc (m - (n + 1))
+one-left m n h = omega arith
+
+none-left : (m n : ℕ) → m ≤ n → m - n ≡ 0
+none-left m n h = omega arith
+
+-- ---- the first sample that fails
+module _ (f : Bool) (l : List Float) (t : Float) (m n : ℕ) where
+  pub past-on : n < m → reached f (timeOf l n) t ≡ true → firstPast f l t (m - n) n ≡ firstPast f l t (m - (n + 1)) (n + 1)
+  unfolding firstPast
+  past-on h e = rw (one-left m n h, e)
+
+  pub past-here : n < m → reached f (timeOf l n) t ≡ false → firstPast f l t (m - n) n ≡ n
+  unfolding firstPast
+  past-here h e = rw (one-left m n h, e)
+
+  pub past-end : m ≤ n → firstPast f l t (m - n) n ≡ n
+  unfolding firstPast
+  past-end h = rw (none-left m n h)
+
+-- ---- the batch's walk
+  pub walk-on : n < m → short f (timeOf l (n + 1)) t ≡ true → walkOn f l t (m - n) n ≡ walkOn f l t (m - (n + 1)) (n + 1)
+  unfolding walkOn
+  walk-on h e = rw (one-left m n h, e)
+
+  pub walk-here : n < m → short f (timeOf l (n + 1)) t ≡ false → walkOn f l t (m - n) n ≡ n
+  unfolding walkOn
+  walk-here h e = rw (one-left m n h, e)
+
+  pub walk-end : m ≤ n → walkOn f l t (m - n) n ≡ n
+  unfolding walkOn
+  walk-end h = rw (none-left m n h)
+
+-- ---- the times that are looked at, and written
+module _ (times : List Float) (j : ℕ) (h : j < length times) where
+  next : drop j times ≡ getD times j nan ∷ drop (j + 1) times
+  next = rw add-one (drop-cons times j nan h)
+
+  pub outside-on : (e : Ends) → outside e (getD times j nan) ≡ false → anyOutside e (drop j times) ≡ anyOutside e (drop (j + 1) times)
+  unfolding anyOutside
+  outside-on e o = rw (next, o)
+
+  pub outside-here : (e : Ends) → outside e (getD times j nan) ≡ true → anyOutside e (drop j times) ≡ true
+  unfolding anyOutside
+  outside-here e o = rw (next, o)
+
+  pub put-on : (l : List Float) (k : ℕ) (out : List Float) →
+      putEach l j k (drop j times) out ≡ putEach l (j + 1) (walkedTo l (getD times j nan) k) (drop (j + 1) times) (put j (valueAt l (walkedTo l (getD times j nan) k) (getD times j nan)) out)
+  unfolding putEach
+  put-on l k out = rw next
+
+-- ---- room: times that fit, said by the quotient and by the product
+pub room-is : (room times : ℕ) → ltb (room / 6) times ≡ ltb room (6 * times)
+room-is room times = by (ltb room (6 * times)) (λ e. ltb-true room (6 * times) e) (λ e. ltb-false room (6 * times) e)
+  where
+    by : (b : Bool) → (b ≡ true → room < 6 * times) → (b ≡ false → 6 * times ≤ room) → ltb (room / 6) times ≡ b
+    by true t f = let h : room < 6 * times = t refl in lt-ltb (room / 6) times (omega arith)
+    by false t f = let h : 6 * times ≤ room = f refl in le-ltb (room / 6) times (omega arith)

@@ -1,0 +1,15 @@
+use mathlib.Core.Path.{refl}
+use lib.Ieee.{div, ofBits}
+use Rattle.dense.specs.Table.{noSample}
+use Rattle.dense.proofs.table.none.Statement.{statement}
+use Rattle.dense.proofs.table.none.Tie as tie
+use Rattle.dense.proofs.table.none.Reads as reads
+use Rattle.dense.proofs.table.none.Lts as lts
+
+-- src/table.rt:35:1
+returns : tie.Need-returns
+unfolding noSample div ofBits
+returns c = refl
+
+pub none-spec : {M : Type 1} → statement M
+none-spec = tie.close (tie.spec returns)

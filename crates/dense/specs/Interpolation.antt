@@ -1,0 +1,86 @@
+-- 01, "Numbered answers": "3 NoDenseOutput: fewer than 2 samples", "4 InterpOutOfBounds: a time below the lower or above the upper end sample",
+-- "9 shape: in interpolation: sample numbers not a multiple of 10, or output below 6 numbers a time"; "Interpolation 9, 3, 4; output past 6 numbers
+-- a time is untouched." A refusal leaves the output untouched, "for a batch wholly".
+use Prim.Native.Nat.{ℕ, _+_, _*_, _/_, _%_}
+use mathlib.Core.Bool.{Bool, true, false, _||_, not, cond}
+use mathlib.Core.List.{List, [], _∷_}
+use lib.Dec.{ltb, eqb}
+use lib.ListN.{length, set}
+use lib.Ieee.{Float, lt}
+use Rattle.refusals.specs.declared.Refusal.{Refusal}
+use Rattle.refusals.specs.declared.Refusal.the-variants.{NoDenseOutput, InterpOutOfBounds, Shape}
+use Rattle.refusals.specs.Numbers.{numberOf}
+use Rattle.quintic.specs.declared.Between.{Between}
+use Rattle.quintic.specs.Quintic.{quinticAt}
+use Rattle.dense.specs.declared.Told.{Told}
+use Rattle.dense.specs.declared.Told.the-variants.{Written, Refused}
+use Rattle.dense.specs.declared.interval.Ends.{Ends}
+use Rattle.dense.specs.Table.{count, sampleOf}
+use Rattle.dense.specs.Intervals.{endsOf, intervalOf, walkedTo}
+
+-- how many numbers a time takes
+abbrev pub width : ℕ
+width = 6
+
+-- 01's number of an answer, and 0 where all is written
+abbrev pub numberTold : Told → ℕ
+numberTold Written = 0
+numberTold (Refused e) = numberOf e
+
+-- ---- what is told
+-- 9, by the counts of times, of numbers in the table and of numbers in the output
+unfoldable pub misshapen : ℕ → ℕ → ℕ → Bool
+misshapen times numbers room = not (eqb (numbers % 10) 0) || ltb room (width * times)
+
+-- 4
+unfoldable pub outside : Ends → Float → Bool
+outside e t = lt t (e .lower) || lt (e .upper) t
+
+unfoldable pub anyOutside : Ends → List Float → Bool
+anyOutside e [] = false
+anyOutside e (t ∷ ts) = outside e t || anyOutside e ts
+
+-- 9, 3, 4, for an output of `room` numbers
+unfoldable pub verdict : List Float → List Float → ℕ → Told
+verdict times samples room =
+    cond (misshapen (length times) (length samples) room)
+    (Refused Shape)
+    (cond (ltb (count samples) 2)
+    (Refused NoDenseOutput)
+    (cond (anyOutside (endsOf samples) times) (Refused InterpOutOfBounds) Written))
+
+abbrev pub judged : List Float → List Float → List Float → Told
+judged times samples out = verdict times samples (length out)
+
+-- ---- what is written
+-- on interval k, by its quintic
+unfoldable pub valueAt : List Float → ℕ → Float → Between
+valueAt l k t = quinticAt (sampleOf l k) (sampleOf l (k + 1)) t
+
+-- the numbers from place p on
+abbrev putFrom : ℕ → Between → List Float → List Float
+putFrom p b out =
+    set (set (set (set (set (set out
+    p (b .r .x)) (p + 1) (b .r .y)) (p + 2) (b .r .z))
+    (p + 3) (b .v .x)) (p + 4) (b .v .y)) (p + 5) (b .v .z)
+
+-- time j takes `width` numbers, if they have room
+unfoldable pub put : ℕ → Between → List Float → List Float
+put j b out = cond (ltb j (length out / width)) (putFrom (width * j) b out) out
+
+-- the batch from time j on, with the walk at interval k: each time in turn, on from where the one before it stood
+unfoldable pub putEach : List Float → ℕ → ℕ → List Float → List Float → List Float
+putEach l j k [] out = out
+putEach l j k (t ∷ ts) out = putEach l (j + 1) (walkedTo l t k) ts (put j (valueAt l (walkedTo l t k) t) out)
+
+-- ---- the output when the call returns: `new`, or untouched by a refusal
+unfoldable pub unless : Told → List Float → List Float → List Float
+unless Written new old = new
+unless (Refused e) new old = old
+
+unfoldable pub interpolated : Float → List Float → List Float → List Float
+interpolated t samples out =
+    unless (judged (t ∷ []) samples out) (put 0 (valueAt samples (intervalOf samples t) t) out) out
+
+unfoldable pub batched : List Float → List Float → List Float → List Float
+batched times samples out = unless (judged times samples out) (putEach samples 0 0 times out) out

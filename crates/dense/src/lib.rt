@@ -1,0 +1,59 @@
+// Between samples: position and velocity at one time, or at a row of times. Both functions take any numbers and any lengths; they
+// refuse by 01's numbers, and their contracts say what every number of `out` is when they return.
+use refusals::Refusal;
+ghost use mathlib.Core.Path.{_≡_};
+ghost use mathlib.Core.List.{[], _∷_};
+ghost use Rattle.dense.specs.Interpolation.{judged, numberTold, interpolated, batched};
+
+mod interval;
+mod table;
+mod verdict;
+mod writing;
+
+pub enum Told {
+    Written,
+    Refused(Refusal),
+}
+
+// The number in 01's table, and 0 where all was written.
+pub fn number_told(told: Told) -> u8
+    ensures { λ n. ⌜ n ≡ numberTold told ⌝ }
+{
+    match told {
+        Told::Written => 0,
+        Told::Refused(e) => refusals::number_of(e),
+    }
+}
+
+// Position and velocity at t, as the first numbers of `out`.
+pub fn interpolate(t: f64, samples: &[f64], out: &mut [f64]) -> Told
+    ensures { λ r. ⌜ r ≡ judged (t ∷ []) (now (samples .entry)) (now (out .entry)) ⌝ }
+    ensures { λ _. ⌜ now (out .exit) ≡ interpolated t (now (samples .entry)) (now (out .entry)) ⌝ }
+{
+    let one = [t];
+    let told = verdict::judge(&one, samples, out.len());
+    match told {
+        Told::Refused(e) => Told::Refused(e),
+        Told::Written => {
+            let k = interval::interval_of(samples, t);
+            writing::store(0, writing::value(samples, k, t), out);
+            Told::Written
+        }
+    }
+}
+
+// Position and velocity at each of the times, one after the other in `out`. One walk through the table serves them all, so they are
+// meant to stand in the table's own order; they need not.
+pub fn interpolate_batch(times: &[f64], samples: &[f64], out: &mut [f64]) -> Told
+    ensures { λ r. ⌜ r ≡ judged (now (times .entry)) (now (samples .entry)) (now (out .entry)) ⌝ }
+    ensures { λ _. ⌜ now (out .exit) ≡ batched (now (times .entry)) (now (samples .entry)) (now (out .entry)) ⌝ }
+{
+    let told = verdict::judge(times, samples, out.len());
+    match told {
+        Told::Refused(e) => Told::Refused(e),
+        Told::Written => {
+            writing::write_all(times, samples, out);
+            Told::Written
+        }
+    }
+}

@@ -1,0 +1,62 @@
+// What a call is told, before anything is written: refusal 9, 3 or 4, in this order, or none.
+use crate::Told;
+use crate::interval;
+use crate::interval::Ends;
+use crate::table;
+use crate::writing;
+use refusals::Refusal;
+ghost use mathlib.Core.Path.{_≡_};
+ghost use mathlib.Core.List.{List};
+ghost use Rattle.dense.specs.Intervals.{endsOf};
+ghost use Rattle.dense.specs.Interpolation.{misshapen, outside, anyOutside, verdict};
+
+// 9, by the counts of times, of numbers in the table and of numbers that `out` has room for.
+fn is_misshapen(times: usize, numbers: usize, room: usize) -> bool
+    ensures { λ b. ⌜ b ≡ misshapen times numbers room ⌝ }
+{
+    if numbers % 10 != 0 {
+        return true;
+    }
+    room / writing::WIDTH < times
+}
+
+// 4, of one time. A NaN is neither below nor above.
+fn is_outside(ends: Ends, t: f64) -> bool
+    ensures { λ b. ⌜ b ≡ outside ends t ⌝ }
+{
+    if t < ends.lower {
+        return true;
+    }
+    t > ends.upper
+}
+
+// 4, of any time.
+fn any_outside(times: &[f64], samples: &[f64]) -> bool
+    ensures { λ b. ⌜ b ≡ anyOutside (endsOf (now (samples .entry))) (now (times .entry)) ⌝ }
+{
+    let ends = interval::ends_of(samples);
+    let mut j = 0usize;
+    while j < times.len() {
+        if is_outside(ends, times[j]) {
+            return true;
+        }
+        j += 1;
+    }
+    false
+}
+
+// `room` is the length of `out`.
+pub fn judge(times: &[f64], samples: &[f64], room: usize) -> Told
+    ensures { λ r. ⌜ r ≡ verdict (now (times .entry)) (now (samples .entry)) room ⌝ }
+{
+    if is_misshapen(times.len(), samples.len(), room) {
+        return Told::Refused(Refusal::Shape);
+    }
+    if table::count_of(samples) < 2 {
+        return Told::Refused(Refusal::NoDenseOutput);
+    }
+    if any_outside(times, samples) {
+        return Told::Refused(Refusal::InterpOutOfBounds);
+    }
+    Told::Written
+}
