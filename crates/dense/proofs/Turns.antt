@@ -6,7 +6,7 @@ use mathlib.Core.List.{List, [], _∷_}
 use native.Mathlib.Omega.{arith}
 use native.Mathlib.Numerals.{add-one}
 use lib.Dec.{ltb}
-use lib.ListN.{length, getD, drop}
+use lib.ListN.{length, getD, drop, drop-of-length-le}
 use lib.Seq.{drop-cons}
 use lib.Ieee.{Float, nan}
 use borrow.Author.Tests.{lt-ltb, le-ltb, ltb-true, ltb-false}
@@ -35,7 +35,7 @@ module _ (f : Bool) (l : List Float) (t : Float) (m n : ℕ) where
   unfolding firstPast
   past-end h = rw (none-left m n h)
 
--- ---- the batch's walk
+  -- ---- the batch's walk
   pub walk-on : n < m → short f (timeOf l (n + 1)) t ≡ true → walkOn f l t (m - n) n ≡ walkOn f l t (m - (n + 1)) (n + 1)
   unfolding walkOn
   walk-on h e = rw (one-left m n h, e)
@@ -65,6 +65,15 @@ module _ (times : List Float) (j : ℕ) (h : j < length times) where
       putEach l j k (drop j times) out ≡ putEach l (j + 1) (walkedTo l (getD times j nan) k) (drop (j + 1) times) (put j (valueAt l (walkedTo l (getD times j nan) k) (getD times j nan)) out)
   unfolding putEach
   put-on l k out = rw next
+
+module _ (times : List Float) (j : ℕ) (h : length times ≤ j) where
+  pub outside-end : (e : Ends) → anyOutside e (drop j times) ≡ false
+  unfolding anyOutside
+  outside-end e = rw (drop-of-length-le times h)
+
+  pub put-end : (l : List Float) (k : ℕ) (out : List Float) → putEach l j k (drop j times) out ≡ out
+  unfolding putEach
+  put-end l k out = rw (drop-of-length-le times h)
 
 -- ---- room: times that fit, said by the quotient and by the product
 pub room-is : (room times : ℕ) → ltb (room / 6) times ≡ ltb room (6 * times)

@@ -13,7 +13,11 @@ pub const WIDTH: usize = 6;
 pub fn value(samples: &[f64], k: usize, t: f64) -> Between
     ensures { λ b. ⌜ b ≡ valueAt (now (samples .entry)) k t ⌝ }
 {
-    quintic::quintic_hermite(table::sample_of(samples, k), table::sample_after(samples, k), t)
+    quintic::quintic_hermite(
+        table::sample_of(samples, k),
+        table::sample_after(samples, k),
+        t,
+    )
 }
 
 // The numbers of time j, all of them or, where they have no room, none.

@@ -1,64 +1,29 @@
+-- `interpolate` is `judged` and `interpolated`.
 use borrow.Author.Needs.{needs}
+use mathlib.Core.Path.{sym, _∙_}
+use Rattle.dense.specs.Interpolation.{unless, interpolated}
 use Rattle.dense.proofs.interpolate.Statement.{statement}
 use Rattle.dense.proofs.interpolate.Tie as tie
-use Rattle.dense.proofs.interpolate.Reads as reads
-use Rattle.dense.proofs.interpolate.Lts as lts
-use Rattle.dense.proofs.interval.interval_of.Reads as interval-of-reads
-use Rattle.dense.proofs.verdict.judge.Reads as judge-reads
-use Rattle.dense.proofs.writing.store.Reads as store-reads
-use Rattle.dense.proofs.writing.value.Reads as value-reads
 
--- src/lib.rt:34:31
-slice-aggregate-judge : tie.Need-slice-aggregate-judge
-slice-aggregate-judge c = search needs
-
--- src/lib.rt:34:9
-judge-requires : tie.Need-judge-requires
-judge-requires c κs = search needs
-
--- src/lib.rt:36:23
-enum-known-told : tie.Need-enum-known-told
-enum-known-told c = search needs
-
--- src/lib.rt:38:17
-enum-told : tie.Need-enum-told
-enum-told c = search needs
-
--- src/lib.rt:38:17
-interval-of-requires : tie.Need-interval-of-requires
-interval-of-requires c κs = search needs
-
--- src/lib.rt:39:31
-value-requires : tie.Need-value-requires
-value-requires c κs = search needs
-
--- src/lib.rt:39:13
-store-requires : tie.Need-store-requires
-store-requires c κs = search needs
-
--- src/lib.rt:29:1
 returns : tie.Need-returns
-returns c = ?
+unfolding interpolated unless
+returns c = (sym (c .before .told .given .1) ∙ c .before .before .before .judge .ensures, rw (← c .before .before .before .judge .ensures, c .before .told .given .1))
 
--- src/lib.rt:29:1
-same-length : tie.Need-same-length
-same-length c = search needs
-
--- src/lib.rt:29:1
 returns-2 : tie.Need-returns-2
-returns-2 c = ?
+unfolding interpolated unless
+returns-2 c = (sym (c .before .before .before .before .before .before .enum-told .given .1) ∙ c .before .before .before .before .before .before .before .before .judge .ensures, rw (← c .before .before .before .before .before .before .before .before .judge .ensures, c .before .before .before .before .before .before .enum-told .given .1, c .before .before .store .ensures, c .before .before .before .before .value .ensures, c .before .before .before .before .before .interval-of .ensures))
 
 pub interpolate-spec : {M : Type 1} → statement M
 interpolate-spec =
     tie.close
     (tie.spec
-    slice-aggregate-judge
-    judge-requires
-    enum-known-told
-    enum-told
-    interval-of-requires
-    value-requires
-    store-requires
+    (λ c. search needs)
+    (λ c κs. search needs)
+    (λ c. search needs)
+    (λ c. search needs)
+    (λ c κs. search needs)
+    (λ c κs. search needs)
+    (λ c κs. search needs)
     returns
-    same-length
+    (λ c. search needs)
     returns-2)

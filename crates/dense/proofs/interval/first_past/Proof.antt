@@ -1,54 +1,33 @@
-use mathlib.Core.Path.{_≡_, refl, sym, _∙_}
+-- `first_past` is `firstPast`: what is looked for from sample n on is what was looked for from the start.
+use Prim.Native.Nat.{ℕ, _-_}
+use native.Mathlib.Nat.{sub-zero}
+use mathlib.Core.Path.{_≡_, sym, ap, _∙_}
 use borrow.Author.Needs.{needs}
+use borrow.Author.Tests.{not-true, not-false}
+use Prim.Native.Nat.{_-_}
+use mathlib.Core.Path.{_≡_, sym, _∙_}
+use Rattle.dense.proofs.Turns.{past-on, past-here, past-end}
+use Rattle.dense.specs.Intervals.{firstPast}
 use Rattle.dense.proofs.interval.first_past.Statement.{statement}
 use Rattle.dense.proofs.interval.first_past.Tie as tie
-use Rattle.dense.proofs.interval.first_past.Reads as reads
-use Rattle.dense.proofs.interval.first_past.Lts as lts
-use Rattle.dense.proofs.interval.is_reached.Reads as is-reached-reads
-use Rattle.dense.proofs.table.count_of.Reads as count-of-reads
-use Rattle.dense.proofs.table.time_of.Reads as time-of-reads
 
 abbrev Inv-loop : tie.InvT-loop
-Inv-loop forward samples t count n₀ n = ?
+Inv-loop forward samples t count n₀ n = firstPast forward samples t (count - n) n ≡ firstPast forward samples t count 0
 
 abbrev μ-loop : tie.MeasureT-loop
-μ-loop forward samples t count n₀ n = ?
+μ-loop forward samples t count n₀ n = count - n
 
--- src/interval.rt:72:9
-count-of-requires : tie.Need-count-of-requires Inv-loop μ-loop
-count-of-requires c κs = search needs
-
--- src/interval.rt:74:5
 loop-holds : tie.Need-loop-holds Inv-loop μ-loop
-loop-holds c = rw sub-zero refl
+loop-holds c = rw sub-zero
 
--- src/interval.rt:75:33
-time-of-requires : tie.Need-time-of-requires Inv-loop μ-loop
-time-of-requires c κs = search needs
-
--- src/interval.rt:75:13
-is-reached-requires : tie.Need-is-reached-requires Inv-loop μ-loop
-is-reached-requires c κs = search needs
-
--- src/interval.rt:76:13
 returns : tie.Need-returns Inv-loop μ-loop
-returns c = ?
+returns c = rw (← c .before .before .before .before .before .count-of .ensures) (sym (past-here _ _ _ _ _ (c .before .before .before .loop-test .taken) (cc (not-true (c .before .is-reached .result) (c .if1 .taken)))) ∙ c .before .before .before .before .loop .inv)
 
--- src/interval.rt:78:9
-add-n : tie.Need-add-n Inv-loop μ-loop
-add-n c = search needs
-
--- src/interval.rt:74:5
-loop-less : tie.Need-loop-less Inv-loop μ-loop
-loop-less c = search needs
-
--- src/interval.rt:74:5
 loop-again : tie.Need-loop-again Inv-loop μ-loop
-loop-again c = ?
+loop-again c = sym (past-on _ _ _ _ _ (c .before .before .before .loop-test .taken) (cc (not-false (c .before .is-reached .result) (c .if1 .left)))) ∙ c .before .before .before .before .loop .inv
 
--- src/interval.rt:69:1
 returns-2 : tie.Need-returns-2 Inv-loop μ-loop
-returns-2 c = ?
+returns-2 c = rw (← c .before .before .count-of .ensures) (sym (past-end _ _ _ _ _ (c .loop-test .left)) ∙ c .before .loop .inv)
 
 pub first-past-spec : {M : Type 1} → statement M
 first-past-spec =
@@ -56,12 +35,12 @@ first-past-spec =
     (tie.spec
     Inv-loop
     μ-loop
-    count-of-requires
+    (λ c κs. search needs)
     loop-holds
-    time-of-requires
-    is-reached-requires
+    (λ c κs. search needs)
+    (λ c κs. search needs)
     returns
-    add-n
-    loop-less
+    (λ c. search needs)
+    (λ c. search needs)
     loop-again
     returns-2)

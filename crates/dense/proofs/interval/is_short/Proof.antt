@@ -1,15 +1,12 @@
+-- `is_short` is `short`.
 use Rattle.dense.specs.Intervals.{short}
 use Rattle.dense.proofs.interval.is_short.Statement.{statement}
 use Rattle.dense.proofs.interval.is_short.Tie as tie
-use Rattle.dense.proofs.interval.is_short.Reads as reads
-use Rattle.dense.proofs.interval.is_short.Lts as lts
 
--- src/interval.rt:63:9
 returns : tie.Need-returns
 unfolding short
 returns c = simp (c .if1 .taken)
 
--- src/interval.rt:59:1
 returns-2 : tie.Need-returns-2
 unfolding short
 returns-2 c = simp (c .if1 .left)

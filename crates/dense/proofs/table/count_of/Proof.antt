@@ -1,11 +1,9 @@
+-- `count_of` is `count`.
 use mathlib.Core.Path.{refl}
 use Rattle.dense.specs.Table.{count}
 use Rattle.dense.proofs.table.count_of.Statement.{statement}
 use Rattle.dense.proofs.table.count_of.Tie as tie
-use Rattle.dense.proofs.table.count_of.Reads as reads
-use Rattle.dense.proofs.table.count_of.Lts as lts
 
--- src/table.rt:9:1
 returns : tie.Need-returns
 unfolding count
 returns c = refl

@@ -1,12 +1,10 @@
+-- `none` is `noSample`: 0.0 / 0.0 is NaN.
 use mathlib.Core.Path.{refl}
 use lib.Ieee.{div, ofBits}
 use Rattle.dense.specs.Table.{noSample}
 use Rattle.dense.proofs.table.none.Statement.{statement}
 use Rattle.dense.proofs.table.none.Tie as tie
-use Rattle.dense.proofs.table.none.Reads as reads
-use Rattle.dense.proofs.table.none.Lts as lts
 
--- src/table.rt:35:1
 returns : tie.Need-returns
 unfolding noSample div ofBits
 returns c = refl

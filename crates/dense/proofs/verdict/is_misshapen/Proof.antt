@@ -1,17 +1,14 @@
+-- `is_misshapen` is `misshapen`; the code divides, so that nothing can overflow.
 use borrow.Author.Tests.{eq-eqb, ne-eqb}
 use Rattle.dense.proofs.Turns.{room-is}
 use Rattle.dense.specs.Interpolation.{misshapen}
 use Rattle.dense.proofs.verdict.is_misshapen.Statement.{statement}
 use Rattle.dense.proofs.verdict.is_misshapen.Tie as tie
-use Rattle.dense.proofs.verdict.is_misshapen.Reads as reads
-use Rattle.dense.proofs.verdict.is_misshapen.Lts as lts
 
--- src/verdict.rt:18:9
 returns : tie.Need-returns
 unfolding misshapen
 returns c = simp (ne-eqb _ _ (c .if1 .taken))
 
--- src/verdict.rt:14:1
 returns-2 : tie.Need-returns-2
 unfolding misshapen
 returns-2 c = simp (eq-eqb _ _ (c .if1 .left), ← room-is)

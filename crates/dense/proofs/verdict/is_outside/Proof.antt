@@ -1,15 +1,12 @@
+-- `is_outside` is `outside`.
 use Rattle.dense.specs.Interpolation.{outside}
 use Rattle.dense.proofs.verdict.is_outside.Statement.{statement}
 use Rattle.dense.proofs.verdict.is_outside.Tie as tie
-use Rattle.dense.proofs.verdict.is_outside.Reads as reads
-use Rattle.dense.proofs.verdict.is_outside.Lts as lts
 
--- src/verdict.rt:28:9
 returns : tie.Need-returns
 unfolding outside
 returns c = simp (c .if1 .taken)
 
--- src/verdict.rt:24:1
 returns-2 : tie.Need-returns-2
 unfolding outside
 returns-2 c = simp (c .before .if1 .left)

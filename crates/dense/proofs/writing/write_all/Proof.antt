@@ -1,50 +1,31 @@
+-- `write_all` is `putEach`: what is left to do here leaves what the whole leaves.
+use Prim.Native.Nat.{_-_}
+use mathlib.Core.Path.{_≡_, refl, sym, _∙_}
+use native.Mathlib.Omega.{arith}
+use borrow.Author.Needs.{needs}
+use lib.ListN.{length, drop}
+use Rattle.dense.proofs.Turns.{put-on, put-end}
+use Rattle.dense.specs.Interpolation.{putEach}
 use Rattle.dense.proofs.writing.write_all.Statement.{statement}
 use Rattle.dense.proofs.writing.write_all.Tie as tie
-use Rattle.dense.proofs.writing.write_all.Reads as reads
-use Rattle.dense.proofs.writing.write_all.Lts as lts
-use Rattle.dense.proofs.writing.write_next.Reads as write-next-reads
 
 abbrev Inv-loop : tie.InvT-loop
-Inv-loop times samples out₀ k₀ j₀ out k j = ?
+Inv-loop times samples out₀ k₀ j₀ out k j = (length out ≡ length out₀) × (putEach samples j k (drop j times) out ≡ putEach samples 0 0 times out₀)
 
 abbrev μ-loop : tie.MeasureT-loop
-μ-loop times samples out₀ k₀ j₀ out k j = ?
+μ-loop times samples out₀ k₀ j₀ out k j = length times - j
 
--- src/writing.rt:50:5
 loop-holds : tie.Need-loop-holds Inv-loop μ-loop
-loop-holds c = ?
+loop-holds c = (refl, refl)
 
--- src/writing.rt:51:27
-mul-write-next : tie.Need-mul-write-next Inv-loop μ-loop
-mul-write-next c = ?
-
--- src/writing.rt:51:27
-shared-slice-read-write-next : tie.Need-shared-slice-read-write-next Inv-loop μ-loop
-shared-slice-read-write-next c = ?
-
--- src/writing.rt:51:9
-write-next-requires : tie.Need-write-next-requires Inv-loop μ-loop
-write-next-requires c κs = ?
-
--- src/writing.rt:52:9
-add-j : tie.Need-add-j Inv-loop μ-loop
-add-j c = ?
-
--- src/writing.rt:50:5
-loop-less : tie.Need-loop-less Inv-loop μ-loop
-loop-less c = ?
-
--- src/writing.rt:50:5
 loop-again : tie.Need-loop-again Inv-loop μ-loop
-loop-again c = ?
+loop-again c = (omega (arith, c .before .before .write-next .kept), rw (c .before .before .write-next .ensures .0, c .before .before .write-next .ensures .1) (sym (put-on _ _ (c .before .before .before .before .before .loop-test .taken) _ _ _) ∙ c .before .before .before .before .before .before .loop .inv .1))
 
--- src/writing.rt:45:1
 same-length : tie.Need-same-length Inv-loop μ-loop
-same-length c = ?
+same-length c = c .before .loop .inv .0
 
--- src/writing.rt:45:1
 returns : tie.Need-returns Inv-loop μ-loop
-returns c = ?
+returns c = sym (put-end _ _ (c .loop-test .left) _ _ _) ∙ c .before .loop .inv .1
 
 pub write-all-spec : {M : Type 1} → statement M
 write-all-spec =
@@ -53,11 +34,11 @@ write-all-spec =
     Inv-loop
     μ-loop
     loop-holds
-    mul-write-next
-    shared-slice-read-write-next
-    write-next-requires
-    add-j
-    loop-less
+    (λ c. search needs)
+    (λ c. search needs)
+    (λ c κs. search needs)
+    (λ c. search needs)
+    (λ c. search needs)
     loop-again
     same-length
     returns)
