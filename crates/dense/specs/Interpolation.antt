@@ -28,9 +28,9 @@ numberTold Written = 0
 numberTold (Refused e) = numberOf e
 
 -- ---- what is told
--- 9, by the counts of times, of numbers in the table and of numbers in the output
-unfoldable pub misshapen : ℕ → ℕ → ℕ → Bool
-misshapen times numbers room = not (eqb (numbers % 10) 0) || ltb room (width * times)
+-- 9
+unfoldable pub misshapen : List Float → List Float → List Float → Bool
+misshapen times samples out = not (eqb (length samples % 10) 0) || ltb (length out) (width * length times)
 
 -- 4
 unfoldable pub outside : Ends → Float → Bool
@@ -40,17 +40,14 @@ unfoldable pub anyOutside : Ends → List Float → Bool
 anyOutside e [] = false
 anyOutside e (t ∷ ts) = outside e t || anyOutside e ts
 
--- 9, 3, 4, for an output of `room` numbers
-unfoldable pub verdict : List Float → List Float → ℕ → Told
-verdict times samples room =
-    cond (misshapen (length times) (length samples) room)
+-- 9, 3, 4
+unfoldable pub judged : List Float → List Float → List Float → Told
+judged times samples out =
+    cond (misshapen times samples out)
     (Refused Shape)
     (cond (ltb (count samples) 2)
     (Refused NoDenseOutput)
     (cond (anyOutside (endsOf samples) times) (Refused InterpOutOfBounds) Written))
-
-abbrev pub judged : List Float → List Float → List Float → Told
-judged times samples out = verdict times samples (length out)
 
 -- ---- what is written
 -- on interval k, by its quintic

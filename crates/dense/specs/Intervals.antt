@@ -34,7 +34,7 @@ firstPast f l t (suc left) n = cond (reached f (timeOf l n) t) (firstPast f l t 
 
 -- k, or the last interval where k lies past it
 unfoldable pub heldTo : ℕ → ℕ → ℕ
-heldTo last k = cond (ltb k last) k last
+heldTo last k = cond (ltb last k) last k
 
 unfoldable pub intervalOf : List Float → Float → ℕ
 intervalOf l t = heldTo (count l - 2) (firstPast (forward l) l t (count l) 0 - 1)

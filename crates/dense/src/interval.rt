@@ -87,10 +87,10 @@ pub fn interval_of(samples: &[f64], t: f64) -> usize
     let past = first_past(is_forward(samples), samples, t);
     let before = table::less(past, 1);
     let last = last_interval(samples);
-    if before < last {
-        return before;
+    if last < before {
+        return last;
     }
-    last
+    before
 }
 
 // The interval of a batch's next time, when the walk stands at interval k: never one before.

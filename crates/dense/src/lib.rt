@@ -31,7 +31,7 @@ pub fn interpolate(t: f64, samples: &[f64], out: &mut [f64]) -> Told
     ensures { λ _. ⌜ now (out .exit) ≡ interpolated t (now (samples .entry)) (now (out .entry)) ⌝ }
 {
     let one = [t];
-    let told = verdict::judge(&one, samples, out.len());
+    let told = verdict::judge(&one, samples, out);
     match told {
         Told::Refused(e) => Told::Refused(e),
         Told::Written => {
@@ -48,7 +48,7 @@ pub fn interpolate_batch(times: &[f64], samples: &[f64], out: &mut [f64]) -> Tol
     ensures { λ r. ⌜ r ≡ judged (now (times .entry)) (now (samples .entry)) (now (out .entry)) ⌝ }
     ensures { λ _. ⌜ now (out .exit) ≡ batched (now (times .entry)) (now (samples .entry)) (now (out .entry)) ⌝ }
 {
-    let told = verdict::judge(times, samples, out.len());
+    let told = verdict::judge(times, samples, out);
     match told {
         Told::Refused(e) => Told::Refused(e),
         Told::Written => {

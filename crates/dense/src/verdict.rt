@@ -6,18 +6,17 @@ use crate::table;
 use crate::writing;
 use refusals::Refusal;
 ghost use mathlib.Core.Path.{_≡_};
-ghost use mathlib.Core.List.{List};
 ghost use Rattle.dense.specs.Intervals.{endsOf};
-ghost use Rattle.dense.specs.Interpolation.{misshapen, outside, anyOutside, verdict};
+ghost use Rattle.dense.specs.Interpolation.{misshapen, outside, anyOutside, judged};
 
-// 9, by the counts of times, of numbers in the table and of numbers that `out` has room for.
-fn is_misshapen(times: usize, numbers: usize, room: usize) -> bool
-    ensures { λ b. ⌜ b ≡ misshapen times numbers room ⌝ }
+// 9. The room is divided, since a product could overflow.
+fn is_misshapen(times: &[f64], samples: &[f64], out: &[f64]) -> bool
+    ensures { λ b. ⌜ b ≡ misshapen (now (times .entry)) (now (samples .entry)) (now (out .entry)) ⌝ }
 {
-    if numbers % 10 != 0 {
+    if samples.len() % 10 != 0 {
         return true;
     }
-    room / writing::WIDTH < times
+    out.len() / writing::WIDTH < times.len()
 }
 
 // 4, of one time. A NaN is neither below nor above.
@@ -45,11 +44,10 @@ fn any_outside(times: &[f64], samples: &[f64]) -> bool
     false
 }
 
-// `room` is the length of `out`.
-pub fn judge(times: &[f64], samples: &[f64], room: usize) -> Told
-    ensures { λ r. ⌜ r ≡ verdict (now (times .entry)) (now (samples .entry)) room ⌝ }
+pub fn judge(times: &[f64], samples: &[f64], out: &[f64]) -> Told
+    ensures { λ r. ⌜ r ≡ judged (now (times .entry)) (now (samples .entry)) (now (out .entry)) ⌝ }
 {
-    if is_misshapen(times.len(), samples.len(), room) {
+    if is_misshapen(times, samples, out) {
         return Told::Refused(Refusal::Shape);
     }
     if table::count_of(samples) < 2 {

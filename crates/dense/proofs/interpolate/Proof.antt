@@ -24,6 +24,7 @@ interpolate-spec =
     (λ c κs. search needs)
     (λ c κs. search needs)
     (λ c κs. search needs)
+    (λ c. search needs)
     returns
     (λ c. search needs)
     returns-2)

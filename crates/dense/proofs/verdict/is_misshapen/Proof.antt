@@ -1,4 +1,4 @@
--- `is_misshapen` is `misshapen`; the code divides, so that nothing can overflow.
+-- `is_misshapen` is `misshapen`: the quotient says what the product says.
 use borrow.Author.Tests.{eq-eqb, ne-eqb}
 use Rattle.dense.proofs.Turns.{room-is}
 use Rattle.dense.specs.Interpolation.{misshapen}
