@@ -10,6 +10,8 @@ use triple::Triple;
 ghost use mathlib.Core.Path.{_≡_};
 ghost use Rattle.gauss_jackson.specs.Answers.{started, answered, openQuestion};
 ghost use Rattle.run.specs.Plan.{defaultSettings};
+ghost use mathlib.Core.List.{[], _∷_};
+ghost use Rattle.dense.specs.Interpolation.{judged, numberTold, interpolated, batched};
 ghost use Rattle.app.specs.Reply.{replyOf, asksFor, finishedAt, refusedBy, repliedOf};
 
 // An outcome in plain numbers. `kind` is 0 for a question, 1 for the finished state, 2 for a refusal; what a kind has no use for is zero.
@@ -165,4 +167,24 @@ pub extern "C" fn gj_open_question(run: &Run) -> Reply
     ensures { λ x. ⌜ x ≡ replyOf (openQuestion (now (run .entry))) ⌝ }
 {
     open_in(*run)
+}
+
+// Position and velocity at t, six numbers of `out`: 0, or the number of the refusal (9, 3, 4).
+#[no_mangle]
+pub extern "C" fn gj_interpolate(t: f64, samples: &[f64], out: &mut [f64]) -> u32
+    ensures { λ n. ⌜ n ≡ numberTold (judged (t ∷ []) (now (samples .entry)) (now (out .entry))) ⌝ }
+    ensures { λ _. ⌜ now (out .exit) ≡ interpolated t (now (samples .entry)) (now (out .entry)) ⌝ }
+{
+    let told = dense::interpolate(t, samples, out);
+    dense::number_told(told) as u32
+}
+
+// The same at each of the times, in one walk through the samples.
+#[no_mangle]
+pub extern "C" fn gj_interpolate_batch(times: &[f64], samples: &[f64], out: &mut [f64]) -> u32
+    ensures { λ n. ⌜ n ≡ numberTold (judged (now (times .entry)) (now (samples .entry)) (now (out .entry))) ⌝ }
+    ensures { λ _. ⌜ now (out .exit) ≡ batched (now (times .entry)) (now (samples .entry)) (now (out .entry)) ⌝ }
+{
+    let told = dense::interpolate_batch(times, samples, out);
+    dense::number_told(told) as u32
 }

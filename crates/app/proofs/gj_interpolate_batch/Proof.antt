@@ -1,0 +1,13 @@
+-- `gj_interpolate_batch` tells the number of what `interpolate_batch` told.
+use mathlib.Core.Path.{ap, _∙_}
+use borrow.Author.Needs.{needs}
+use Rattle.dense.specs.Interpolation.{numberTold}
+use Rattle.app.proofs.gj_interpolate_batch.Statement.{statement}
+use Rattle.app.proofs.gj_interpolate_batch.Tie as tie
+
+returns : tie.Need-returns
+returns c = (c .number-told .ensures ∙ ap numberTold (c .before .before .before .interpolate-batch .ensures .0), c .before .before .before .interpolate-batch .ensures .1)
+
+pub gj-interpolate-batch-spec : {M : Type 1} → statement M
+gj-interpolate-batch-spec =
+    tie.close (tie.spec (λ c κs. search needs) (λ c κs. search needs) (λ c. search needs) (λ c. search needs) returns)
