@@ -1,0 +1,127 @@
+//! What the library exports, as include/gauss_jackson.h has it.
+
+/// A position, a velocity or an acceleration.
+#[repr(C)]
+#[derive(Debug, Clone, Copy, PartialEq, Default)]
+pub struct Triple {
+    pub x: f64,
+    pub y: f64,
+    pub z: f64,
+}
+
+impl From<[f64; 3]> for Triple {
+    fn from([x, y, z]: [f64; 3]) -> Triple {
+        Triple { x, y, z }
+    }
+}
+
+impl From<Triple> for [f64; 3] {
+    fn from(t: Triple) -> [f64; 3] {
+        [t.x, t.y, t.z]
+    }
+}
+
+/// What the caller chooses; `Settings::default()` has the library's own values. The step's sign does not count.
+#[repr(C)]
+#[derive(Debug, Clone, Copy, PartialEq)]
+pub struct Settings {
+    pub h: f64,
+    /// Zero or less makes every pass.
+    pub corrector_tol: f64,
+    pub startup_tol: f64,
+    /// At most 100.
+    pub max_corrector_iters: u64,
+    /// At most 100.
+    pub max_startup_iters: u64,
+    /// At most 1,000,000.
+    pub max_steps: u64,
+    /// Whether samples are stored in the buffer lent to each answer.
+    pub samples: bool,
+}
+
+impl Default for Settings {
+    fn default() -> Settings {
+        // Safe: it takes nothing, and gives a record whose every value is a Settings.
+        unsafe { gj_default_settings() }
+    }
+}
+
+/// What a call tells, in plain numbers.
+#[repr(C)]
+#[derive(Clone, Copy)]
+pub struct Reply {
+    pub t: f64,
+    pub r: Triple,
+    pub v: Triple,
+    pub evals: u64,
+    pub steps: u64,
+    pub startup_iters: u64,
+    pub kind: u32,
+    pub refusal: u16,
+    pub number: u16,
+}
+
+/// The run, by its size alone: nothing here looks inside.
+#[repr(C)]
+#[derive(Clone)]
+pub struct Run(pub [u64; 132]);
+
+extern "C" {
+    pub fn gj_default_settings() -> Settings;
+    pub fn gj_start(run: *mut Run, settings: Settings, t0: f64, tf: f64, r0: Triple, v0: Triple) -> Reply;
+    pub fn gj_answer(run: *mut Run, number: u16, a: Triple, out: *mut f64, count: usize) -> Reply;
+    pub fn gj_open_question(run: *const Run) -> Reply;
+}
+
+#[cfg(feature = "dense")]
+extern "C" {
+    pub fn gj_interpolate(t: f64, samples: *const f64, n: usize, out: *mut f64, m: usize) -> u32;
+    pub fn gj_interpolate_batch(times: *const f64, k: usize, samples: *const f64, n: usize, out: *mut f64, m: usize) -> u32;
+}
+
+#[cfg(test)]
+mod tests {
+    use super::*;
+    use std::mem::{align_of, size_of, MaybeUninit};
+    use std::ptr::addr_of;
+
+    /// Where a field stands, from the start of its record.
+    macro_rules! offset {
+        ($record:ty, $field:ident) => {{
+            let whole = MaybeUninit::<$record>::uninit();
+            let start = whole.as_ptr();
+            // Only an address is worked out; nothing is read.
+            let field = unsafe { addr_of!((*start).$field) };
+            field as usize - start as usize
+        }};
+    }
+
+    #[test]
+    fn sizes_are_the_headers() {
+        assert_eq!((size_of::<Triple>(), align_of::<Triple>()), (24, 8));
+        assert_eq!((size_of::<Settings>(), align_of::<Settings>()), (56, 8));
+        assert_eq!((size_of::<Reply>(), align_of::<Reply>()), (88, 8));
+        assert_eq!((size_of::<Run>(), align_of::<Run>()), (1056, 8));
+    }
+
+    #[test]
+    fn settings_stand_as_in_the_header() {
+        let floats = [offset!(Settings, h), offset!(Settings, corrector_tol), offset!(Settings, startup_tol)];
+        assert_eq!(floats, [0, 8, 16]);
+        let limits = [
+            offset!(Settings, max_corrector_iters),
+            offset!(Settings, max_startup_iters),
+            offset!(Settings, max_steps),
+        ];
+        assert_eq!(limits, [24, 32, 40]);
+        assert_eq!(offset!(Settings, samples), 48);
+    }
+
+    #[test]
+    fn replies_stand_as_in_the_header() {
+        assert_eq!([offset!(Reply, t), offset!(Reply, r), offset!(Reply, v)], [0, 8, 32]);
+        assert_eq!([offset!(Reply, evals), offset!(Reply, steps), offset!(Reply, startup_iters)], [56, 64, 72]);
+        assert_eq!([offset!(Reply, kind), offset!(Reply, refusal), offset!(Reply, number)], [80, 84, 86]);
+        assert_eq!([offset!(Triple, x), offset!(Triple, y), offset!(Triple, z)], [0, 8, 16]);
+    }
+}

@@ -1,0 +1,95 @@
+//! The refusals, with a text each.
+use std::fmt;
+
+/// Why a call was refused.
+#[derive(Debug, Clone, Copy, PartialEq, Eq, Hash)]
+#[non_exhaustive]
+pub enum Refusal {
+    StepNotFinite,
+    MaxStepsExceeded,
+    NoDenseOutput,
+    InterpOutOfBounds,
+    Setting,
+    SampleRoom,
+    NoQuestion,
+    NotThatQuestion,
+    Shape,
+    /// A number that this crate has no name for: the library is newer than the crate.
+    Other(u16),
+}
+
+const NAMED: [Refusal; 9] = [
+    Refusal::StepNotFinite,
+    Refusal::MaxStepsExceeded,
+    Refusal::NoDenseOutput,
+    Refusal::InterpOutOfBounds,
+    Refusal::Setting,
+    Refusal::SampleRoom,
+    Refusal::NoQuestion,
+    Refusal::NotThatQuestion,
+    Refusal::Shape,
+];
+
+impl Refusal {
+    pub(crate) fn of(number: u16) -> Refusal {
+        let place = usize::from(number).wrapping_sub(1);
+        NAMED.get(place).copied().unwrap_or(Refusal::Other(number))
+    }
+
+    /// The number that the C header has for it.
+    pub fn number(self) -> u16 {
+        match self {
+            Refusal::Other(number) => number,
+            named => 1 + NAMED.iter().position(|n| *n == named).unwrap_or(0) as u16,
+        }
+    }
+
+    fn text(self) -> &'static str {
+        match self {
+            Refusal::StepNotFinite => "the step is zero, or the span from start to end is shorter than eight steps",
+            Refusal::MaxStepsExceeded => "a further step is due, but max_steps are made; the run has ended, its samples stay",
+            Refusal::NoDenseOutput => "fewer than two samples, so there is nothing to interpolate between",
+            Refusal::InterpOutOfBounds => "a time lies outside the samples; nothing was written",
+            Refusal::Setting => "a setting is over its limit: passes go up to 100, max_steps to 1,000,000",
+            Refusal::SampleRoom => "the samples due now do not all fit in the buffer; the run has ended, this call wrote none",
+            Refusal::NoQuestion => "no question is open: the run has ended, or its memory is not that of a run",
+            Refusal::NotThatQuestion => "the answer's number is not that of the open question; the run waits as before",
+            Refusal::Shape => "the samples are not in tens, or the output has fewer than six numbers a time",
+            Refusal::Other(_) => "a refusal that this crate has no name for",
+        }
+    }
+}
+
+impl fmt::Display for Refusal {
+    fn fmt(&self, f: &mut fmt::Formatter) -> fmt::Result {
+        write!(f, "{} (refusal {})", self.text(), self.number())
+    }
+}
+
+impl std::error::Error for Refusal {}
+
+#[cfg(test)]
+mod tests {
+    use super::*;
+    use std::collections::HashSet;
+
+    #[test]
+    fn numbers_go_both_ways() {
+        for number in 0..=20 {
+            assert_eq!(Refusal::of(number).number(), number);
+        }
+        assert_eq!(Refusal::of(1), Refusal::StepNotFinite);
+        assert_eq!(Refusal::of(9), Refusal::Shape);
+        assert_eq!(Refusal::of(0), Refusal::Other(0));
+        assert_eq!(Refusal::of(10), Refusal::Other(10));
+    }
+
+    #[test]
+    fn each_has_a_text_of_its_own() {
+        let texts: HashSet<_> = (1..=10).map(|n| Refusal::of(n).text()).collect();
+        assert_eq!(texts.len(), 10);
+        let error: &dyn std::error::Error = &Refusal::NotThatQuestion;
+        let said = "the answer's number is not that of the open question; the run waits as before (refusal 8)";
+        assert_eq!(error.to_string(), said);
+    }
+}

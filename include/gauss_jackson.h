@@ -1,0 +1,155 @@
+/* The proved Gauss-Jackson run, for C and C++: what libapp.a exports (x86-64, System V calling convention).
+ *
+ * A run asks for accelerations, one question at a time; the caller answers. Nothing is allocated, nothing is kept
+ * between calls but in the caller's own memory, and no call touches anything that is not named in its arguments.
+ *
+ *     gj_run run;
+ *     gj_reply reply = gj_start(&run, gj_default_settings(), t0, tf, r0, v0);
+ *     while (reply.kind == GJ_ASK)
+ *         reply = gj_answer(&run, reply.number, force(reply.t, reply.r, reply.v), samples, count);
+ *     if (reply.kind == GJ_DONE) ... reply.t, reply.r, reply.v ... else ... reply.refusal ...
+ *
+ * No machine checks this file against the library's source. tests/abi/run compares sizes, offsets and results.
+ *
+ * What the caller owes, since no proof reaches it:
+ *   - every pointer points to memory of the size said here, aligned to 8 bytes, which nobody else uses during the call;
+ *   - a count is the true count of numbers behind its pointer; where it is 0 the pointer is not looked at, and may be null;
+ *   - `samples` in gj_settings is 0 or 1, in a run too (a C `bool` that was assigned is so); any other byte is undefined behaviour;
+ *   - two arguments of one call never overlap, save where both are only read.
+ * Beyond that every value is allowed: NaN, infinities, ended and made-up runs. Each has its answer.
+ */
+#ifndef GAUSS_JACKSON_H
+#define GAUSS_JACKSON_H
+
+#include <stdbool.h>
+#include <stddef.h>
+#include <stdint.h>
+
+#ifdef __cplusplus
+#define GJ_HOLDS(fact, said) static_assert(fact, said)
+extern "C" {
+#else
+#define GJ_HOLDS(fact, said) _Static_assert(fact, said)
+#endif
+#define GJ_SIZE(type, size) GJ_HOLDS(sizeof(type) == (size), #type " takes " #size " bytes")
+#define GJ_AT(type, field, offset) GJ_HOLDS(offsetof(type, field) == (offset), #type "." #field " stands at " #offset)
+
+/* Kinds of reply. */
+enum {
+    GJ_ASK = 0,     /* a question: number, t, r, v */
+    GJ_DONE = 1,    /* the finished state: t, r, v, evals, steps, startup_iters */
+    GJ_REFUSED = 2  /* a refusal: its number */
+};
+
+/* Refusals. What is left of a run: "no run" and "ended" are one and the same ended run, which answers 7 from then on. */
+enum {
+    GJ_STEP_NOT_FINITE = 1,       /* start: the step is zero, or the span is shorter than eight steps; no run */
+    GJ_MAX_STEPS_EXCEEDED = 2,    /* answer: a further step is due and max_steps are made; ended, the samples stay */
+    GJ_NO_DENSE_OUTPUT = 3,       /* interpolation: fewer than two samples; the output is untouched */
+    GJ_INTERP_OUT_OF_BOUNDS = 4,  /* interpolation: a time outside the samples; the output is untouched, for a batch wholly */
+    GJ_SETTING = 5,               /* start: a setting over its limit; no run */
+    GJ_SAMPLE_ROOM = 6,           /* answer: the samples due now do not all fit; ended, and this call writes none */
+    GJ_NO_QUESTION = 7,           /* answer, open question: the run has ended, or is made up; all unchanged */
+    GJ_NOT_THAT_QUESTION = 8,     /* answer: the number is not the open question's; all unchanged, answer again */
+    GJ_SHAPE = 9                  /* interpolation: samples not in tens, or output below 6 numbers a time; untouched */
+};
+
+/* Limits of the settings. */
+enum {
+    GJ_MAX_PASSES = 100,     /* for max_corrector_iters and for max_startup_iters */
+    GJ_MAX_STEPS = 1000000   /* for max_steps */
+};
+
+enum {
+    GJ_SAMPLE_NUMBERS = 10,   /* t, r.x r.y r.z, v.x v.y v.z, a.x a.y a.z */
+    GJ_BETWEEN_NUMBERS = 6    /* what an interpolation writes a time: r.x r.y r.z, v.x v.y v.z */
+};
+
+/* A position, a velocity or an acceleration. */
+typedef struct gj_triple {
+    double x, y, z;
+} gj_triple;
+GJ_SIZE(gj_triple, 24);
+GJ_AT(gj_triple, y, 8);
+GJ_AT(gj_triple, z, 16);
+
+/* What the caller chooses. The step's sign does not count: the run goes from t0 towards tf. */
+typedef struct gj_settings {
+    double h;                      /* the step: 60 by default */
+    double corrector_tol;          /* 1e-13; zero or less makes every pass */
+    double startup_tol;            /* 1e-13 */
+    uint64_t max_corrector_iters;  /* 2, at most 100 */
+    uint64_t max_startup_iters;    /* 12, at most 100 */
+    uint64_t max_steps;            /* 1,000,000, at most 1,000,000 */
+    bool samples;                  /* false: no samples, and the sample buffer is not looked at */
+} gj_settings;
+GJ_SIZE(gj_settings, 56);
+GJ_AT(gj_settings, h, 0);
+GJ_AT(gj_settings, corrector_tol, 8);
+GJ_AT(gj_settings, startup_tol, 16);
+GJ_AT(gj_settings, max_corrector_iters, 24);
+GJ_AT(gj_settings, max_startup_iters, 32);
+GJ_AT(gj_settings, max_steps, 40);
+GJ_AT(gj_settings, samples, 48);
+
+/* What a call tells. What its kind has no use for is zero. */
+typedef struct gj_reply {
+    double t;
+    gj_triple r;
+    gj_triple v;
+    uint64_t evals;          /* answers accepted, in the finished state */
+    uint64_t steps;          /* steps made */
+    uint64_t startup_iters;  /* startup passes made */
+    uint32_t kind;           /* GJ_ASK, GJ_DONE or GJ_REFUSED */
+    uint16_t refusal;        /* 1 to 9, by the names above */
+    uint16_t number;         /* the question's number: answer under it; after 65,535 comes 0 */
+} gj_reply;
+GJ_SIZE(gj_reply, 88);
+GJ_AT(gj_reply, t, 0);
+GJ_AT(gj_reply, r, 8);
+GJ_AT(gj_reply, v, 32);
+GJ_AT(gj_reply, evals, 56);
+GJ_AT(gj_reply, steps, 64);
+GJ_AT(gj_reply, startup_iters, 72);
+GJ_AT(gj_reply, kind, 80);
+GJ_AT(gj_reply, refusal, 84);
+GJ_AT(gj_reply, number, 86);
+
+#include "gauss_jackson_run.h" /* gj_run: 1,056 bytes of plain data */
+
+/* The module's values: one-minute steps, no samples. */
+gj_settings gj_default_settings(void);
+
+/* A start: question 0, or refusal 5 or 1. `run` is the caller's and need not be set before; it is written whole. */
+gj_reply gj_start(gj_run *run, gj_settings settings, double t0, double tf, gj_triple r0, gj_triple v0);
+
+/* The answer to question `number`: the acceleration `a` at the question's time, position and velocity. The run moves on
+ * where it stands. Refusals 7, 8, 6, 2, judged in this order.
+ *
+ * `out` is the sample buffer, `count` its numbers; it is the caller's, lent for the call. With samples, sample n goes to
+ * numbers 10n to 10n+9 of it (counted from `out` at every call), and nothing else of it is written. Samples 0 to 4 come with the
+ * last answer of the startup, then one a step: a run of K steps fills K+1 samples, so 10(K+1) numbers are enough. For
+ * whole-number times K is the span over the step, rounded up. Numbers written by earlier calls are never read. */
+gj_reply gj_answer(gj_run *run, uint16_t number, gj_triple a, double *out, size_t count);
+
+/* The question that the run waits for, once more, or refusal 7. The run is only read. */
+gj_reply gj_open_question(const gj_run *run);
+
+/* Position and velocity at time t between the samples: 6 numbers to `out`. `samples` has `n` numbers, ten a sample, as gj_answer
+ * wrote them; `out` has room for `m`. Gives 0, or refusal 9, 3 or 4, and then nothing is written. A NaN time gives six NaN. */
+uint32_t gj_interpolate(double t, const double *samples, size_t n, double *out, size_t m);
+
+/* The same for `k` times, in the order in which the run went: 6 numbers a time, the first six for the first time. Nothing is written
+ * unless every time lies within the samples. The search never goes back: a time before the one before it is read off a
+ * later curve. */
+uint32_t gj_interpolate_batch(const double *times, size_t k, const double *samples, size_t n, double *out, size_t m);
+
+#undef GJ_AT
+#undef GJ_SIZE
+#undef GJ_HOLDS
+
+#ifdef __cplusplus
+}
+#endif
+
+#endif
