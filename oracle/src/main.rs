@@ -4,9 +4,11 @@
 //!   oracle examples         01's "Examples at the edges", each beside what the module does
 //!   oracle list             the stored list of cases
 //!   oracle cases SEED N     N random cases
+//!   oracle orbit            the orbit of examples/, by its bits
 mod cases;
 mod examples;
 mod force;
+mod orbit;
 mod random;
 mod transcript;
 
@@ -22,6 +24,7 @@ fn main() -> io::Result<()> {
         ["run"] => transcript::run(io::stdin().lock(), &mut out)?,
         ["examples"] => examples::print(&mut out)?,
         ["list"] => cases::list(&mut out)?,
+        ["orbit"] => orbit::print(&mut out)?,
         ["cases", seed, count] => {
             let number = |w: &str| w.parse().unwrap_or_else(|_| usage());
             cases::random(number(seed), number(count), &mut out)?
@@ -32,6 +35,6 @@ fn main() -> io::Result<()> {
 }
 
 fn usage() -> ! {
-    eprintln!("usage: oracle run | examples | list | cases SEED N");
+    eprintln!("usage: oracle run | examples | list | cases SEED N | orbit");
     std::process::exit(2)
 }

@@ -1,0 +1,118 @@
+/* An orbit 400 km up, carried forward for a day in one-minute steps, and read off between the steps.
+ *
+ *   orbit           prints a table
+ *   orbit --bits    prints every sample, the finished state and the table's values by their bits, for comparison
+ *
+ * GJ_DENSE 0 builds it for a library without interpolation: the table then stands at samples.
+ */
+#include "gauss_jackson.h"
+
+#include <math.h>
+#include <stdio.h>
+#include <string.h>
+
+#ifndef GJ_DENSE
+#define GJ_DENSE 1
+#endif
+
+enum { STEPS = 1440, ROWS = 24, NUMBERS = GJ_SAMPLE_NUMBERS * (STEPS + 1) };
+
+static const double DAY = 86400.0, MU = 398600.4418, RADIUS = 6778.137, EARTH = 6378.137;
+static const double COS_INCLINATION = 0.6211477802783103, SIN_INCLINATION = 0.7836934573258398; /* of 51.6 degrees */
+
+static double distance(gj_triple r) { return sqrt((r.x * r.x + r.y * r.y) + r.z * r.z); }
+
+/* The Earth as a point: each operation rounded once, in this order, so that another program can give the same bits. */
+static gj_triple force(gj_triple r) {
+    double d = distance(r), cube = (d * d) * d;
+    gj_triple a = {(-MU * r.x) / cube, (-MU * r.y) / cube, (-MU * r.z) / cube};
+    return a;
+}
+
+static gj_reply carry_forward(double *samples) {
+    double speed = sqrt(MU / RADIUS);
+    gj_triple r0 = {RADIUS, 0.0, 0.0}, v0 = {0.0, speed * COS_INCLINATION, speed * SIN_INCLINATION};
+    gj_settings settings = gj_default_settings();
+    settings.samples = true;
+    gj_run run;
+    gj_reply reply = gj_start(&run, settings, 0.0, DAY, r0, v0);
+    while (reply.kind == GJ_ASK)
+        reply = gj_answer(&run, reply.number, force(reply.r), samples, NUMBERS);
+    return reply;
+}
+
+/* Once an hour, and half a minute past: between two samples. */
+static double time_of(int row) { return 3600.0 * row + (GJ_DENSE ? 30.0 : 0.0); }
+
+/* Position and velocity at each row, six numbers a row; 0, or a refusal. */
+static uint32_t read_off(const double *samples, double *rows) {
+#if GJ_DENSE
+    double times[ROWS];
+    for (int row = 0; row < ROWS; row++) times[row] = time_of(row);
+    return gj_interpolate_batch(times, ROWS, samples, NUMBERS, rows, GJ_BETWEEN_NUMBERS * ROWS);
+#else
+    for (int row = 0; row < ROWS; row++)
+        memcpy(rows + GJ_BETWEEN_NUMBERS * row, samples + GJ_SAMPLE_NUMBERS * 60 * row + 1, GJ_BETWEEN_NUMBERS * sizeof *rows);
+    return 0;
+#endif
+}
+
+static void print_row(double t, const double *six) {
+    int s = (int)t;
+    gj_triple r = {six[0], six[1], six[2]};
+    printf("%02d:%02d:%02d", s / 3600, s / 60 % 60, s % 60);
+    printf("  %10.3f %10.3f %10.3f", six[0], six[1], six[2]);
+    printf("  %9.6f %9.6f %9.6f", six[3], six[4], six[5]);
+    printf("  %8.4f\n", distance(r) - EARTH);
+}
+
+static void print_table(gj_reply end, const double *rows) {
+    printf("An orbit 400 km up, %d steps of a minute; %s.\n\n", STEPS, GJ_DENSE ? "read off between steps" : "read off at steps");
+    printf("    time       x km       y km       z km    vx km/s   vy km/s   vz km/s    height\n");
+    for (int row = 0; row < ROWS; row++) print_row(time_of(row), rows + GJ_BETWEEN_NUMBERS * row);
+    double six[] = {end.r.x, end.r.y, end.r.z, end.v.x, end.v.y, end.v.z};
+    print_row(end.t, six);
+    printf("\nFinished at %.0f s: %llu steps, %llu answers, %llu startup passes.\n", end.t, (unsigned long long)end.steps,
+           (unsigned long long)end.evals, (unsigned long long)end.startup_iters);
+}
+
+static void print_bits(const double *numbers, int count) {
+    for (int i = 0; i < count; i++) {
+        unsigned long long bits;
+        memcpy(&bits, numbers + i, sizeof bits);
+        printf(" %016llx", bits);
+    }
+}
+
+static void print_all_bits(gj_reply end, const double *samples, const double *rows) {
+    for (int n = 0; n <= STEPS; n++) {
+        printf("sample %d", n);
+        print_bits(samples + GJ_SAMPLE_NUMBERS * n, GJ_SAMPLE_NUMBERS);
+        puts("");
+    }
+    double state[] = {end.t, end.r.x, end.r.y, end.r.z, end.v.x, end.v.y, end.v.z};
+    printf("done");
+    print_bits(state, 7);
+    printf(" %llu %llu %llu\n", (unsigned long long)end.evals, (unsigned long long)end.steps,
+           (unsigned long long)end.startup_iters);
+    for (int row = 0; GJ_DENSE && row < ROWS; row++) {
+        printf("interp");
+        print_bits(rows + GJ_BETWEEN_NUMBERS * row, GJ_BETWEEN_NUMBERS);
+        puts("");
+    }
+}
+
+int main(int argc, char **argv) {
+    static double samples[NUMBERS], rows[GJ_BETWEEN_NUMBERS * ROWS];
+    gj_reply end = carry_forward(samples);
+    uint32_t refusal = end.kind == GJ_DONE ? read_off(samples, rows) : end.refusal;
+    if (refusal != 0) {
+        fprintf(stderr, "refusal %u\n", (unsigned)refusal);
+        return 1;
+    }
+    if (argc == 2 && strcmp(argv[1], "--bits") == 0)
+        print_all_bits(end, samples, rows);
+    else
+        print_table(end, rows);
+    return 0;
+}

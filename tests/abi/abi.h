@@ -1,0 +1,39 @@
+/* What the parts of the test share: a check that is counted, and one that names what failed. */
+#ifndef ABI_H
+#define ABI_H
+
+#include "gauss_jackson.h"
+
+#include <stdio.h>
+
+extern int checks, failures;
+
+static inline void check(int holds, const char *what) {
+    checks++;
+    if (holds) return;
+    failures++;
+    printf("FAILED: %s\n", what);
+}
+
+/* 0 to 8 in steps of 1, one pass each, tolerances 0, no samples: 57 answers. */
+static inline gj_settings plain(void) {
+    gj_settings s = {1.0, 0.0, 0.0, 1, 1, 1000000, false};
+    return s;
+}
+
+/* Answers every question by a = -r, up to `most` answers. */
+static inline gj_reply play(gj_run *run, gj_reply reply, double *out, size_t count, int most) {
+    for (; most > 0 && reply.kind == GJ_ASK; most--) {
+        gj_triple a = {-reply.r.x, -reply.r.y, -reply.r.z};
+        reply = gj_answer(run, reply.number, a, out, count);
+    }
+    return reply;
+}
+
+void layout_of_settings(void);
+void layout_of_replies(void);
+void layout_of_runs(void);
+void results(void);
+int wrapper_failures(void);
+
+#endif

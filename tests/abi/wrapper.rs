@@ -1,0 +1,73 @@
+//! The safe crate over the real library: counts, states and every refusal that it can meet there.
+use gauss_jackson::{numbers_for, Refusal, Reply, Run, Settings, Triple};
+
+const PLAIN: Settings =
+    Settings { h: 1.0, corrector_tol: 0.0, startup_tol: 0.0, max_corrector_iters: 1, max_startup_iters: 1, max_steps: 1_000_000, samples: false };
+
+fn start(settings: Settings) -> Result<(Run, Reply), Refusal> {
+    Run::start(settings, 0.0, 8.0, Triple::from([1.0, 2.0, 3.0]), Triple::default())
+}
+
+/// To the end by a = -r; tells steps and answers.
+fn play(settings: Settings, samples: &mut [f64]) -> Result<(u64, u64), Refusal> {
+    let (mut run, mut reply) = start(settings)?;
+    loop {
+        match reply {
+            Reply::Ask { number, r, .. } => {
+                assert_eq!(run.open_question(), Ok(reply));
+                let a = Triple { x: -r.x, y: -r.y, z: -r.z };
+                let mut copy = run.clone();
+                reply = run.answer(number, a, samples)?;
+                assert_eq!(copy.answer(number, a, samples), Ok(reply));
+            }
+            Reply::Done { steps, evals, .. } => {
+                assert_eq!(run.answer(0, Triple::default(), samples), Err(Refusal::NoQuestion));
+                return Ok((steps, evals));
+            }
+        }
+    }
+}
+
+fn runs() {
+    assert_eq!(Settings::default(), Settings { h: 60.0, corrector_tol: 1e-13, startup_tol: 1e-13, max_corrector_iters: 2, max_startup_iters: 12, ..PLAIN });
+    assert_eq!(play(PLAIN, &mut []), Ok((8, 57)));
+    let sampled = Settings { samples: true, ..PLAIN };
+    let mut samples = vec![0.0; numbers_for(8)];
+    assert_eq!(play(sampled, &mut samples), Ok((8, 57)));
+    assert_eq!((samples[10], samples[80]), (1.0, 8.0));
+    assert_eq!(play(sampled, &mut samples[1..]), Err(Refusal::SampleRoom));
+}
+
+fn refusals() {
+    assert_eq!(start(Settings { h: 0.0, ..PLAIN }).unwrap_err(), Refusal::StepNotFinite);
+    assert_eq!(start(Settings { max_steps: 1_000_001, ..PLAIN }).unwrap_err(), Refusal::Setting);
+    assert_eq!(play(Settings { max_steps: 7, ..PLAIN }, &mut []), Err(Refusal::MaxStepsExceeded));
+    let (mut run, reply) = start(PLAIN).unwrap();
+    assert_eq!(run.answer(1, Triple::default(), &mut []), Err(Refusal::NotThatQuestion));
+    assert_eq!(run.open_question(), Ok(reply));
+}
+
+#[cfg(feature = "dense")]
+fn between() {
+    use gauss_jackson::{interpolate, interpolate_batch};
+    let mut table = vec![0.0; 10];
+    table.extend([1.0, 1.0, 1.0, 1.0, 5.0, 5.0, 5.0, 20.0, 20.0, 20.0]);
+    let at = interpolate(0.5, &table).unwrap();
+    assert_eq!((at.r.z, at.v.x), (0.03125, 0.3125));
+    assert_eq!(interpolate_batch(&[0.5], &table), Ok(vec![at]));
+    assert_eq!(interpolate_batch(&[], &table), Ok(vec![]));
+    assert_eq!(interpolate(0.5, &table[1..]), Err(Refusal::Shape));
+    assert_eq!(interpolate(0.5, &table[10..]), Err(Refusal::NoDenseOutput));
+    assert_eq!(interpolate(0.5, &[]), Err(Refusal::NoDenseOutput));
+    assert_eq!(interpolate_batch(&[0.5, 2.0], &table), Err(Refusal::InterpOutOfBounds));
+}
+
+#[cfg(not(feature = "dense"))]
+fn between() {}
+
+/// How many of the parts failed; each says on standard error what it found.
+#[no_mangle]
+pub extern "C" fn wrapper_failures() -> i32 {
+    let parts: [fn(); 3] = [runs, refusals, between];
+    parts.iter().filter(|part| std::panic::catch_unwind(**part).is_err()).count() as i32
+}
