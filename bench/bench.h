@@ -1,0 +1,36 @@
+/* The three columns, each with the same force, a = -r, and the same ends of a run to compare. */
+#ifndef BENCH_H
+#define BENCH_H
+
+#include "gauss_jackson.h"
+
+/* A run's input. `out` is the room for samples, where settings.samples says so; it is not cleared. */
+typedef struct task {
+    gj_settings settings;
+    double t0, tf;
+    gj_triple r0, v0;
+    double *out;
+    size_t count;
+} task;
+
+/* The module over the stand-in, as its own text has it; its samples are its own and are copied out at the end. */
+void module_run(const task *task, gj_reply *end);
+/* A plain loop in C with the same tests and no questions. */
+void plain_run(const task *task, gj_reply *end);
+/* The proved library, asked and answered. */
+void library_run(const task *task, gj_reply *end);
+
+/* Times between samples: one by one, or all in one batch. Six numbers a time go to `rows`. */
+typedef struct reading {
+    const double *times;
+    size_t k;
+    const double *samples;
+    size_t n;
+    double *rows;
+} reading;
+
+uint32_t module_read(const reading *reading, bool batch);
+uint32_t plain_read(const reading *reading, bool batch);
+uint32_t library_read(const reading *reading, bool batch);
+
+#endif
