@@ -1,6 +1,7 @@
-# The parts of bench/run: building, measuring, printing. $out is the folder of what is built.
+# The parts of bench/run and bench/where: building, measuring, printing. $out is the folder of what is built.
+columns='module module-1 plain library'
 
-# Table A and B for the plain loop, out of the library's own source.
+# Tables A and B for the plain loop, out of the library's own source.
 write_tables() {
     for name in a b; do
         echo "static const double $(echo $name | tr ab AB)[10][9] = {"
@@ -9,47 +10,64 @@ write_tables() {
     done
 }
 
+# NAME FLAGS: a driver over the module as the flags compile it. Both have opt-level 3 and LTO.
 build_driver() {
+    name=$1
+    shift
+    compile_over_module $out --crate-name module "$@" bench/module.rs -o "$out/lib$name.a"
+    link_rust $out/plain.o $out/plain_read.o $out/library.o $out/driver.o "$out/lib$name.a" "$library" -o "$out/driver-$name"
+}
+
+build_drivers() {
     need_module $out
-    compile_over_module $out --crate-name module -C codegen-units=1 -C panic=abort bench/module.rs -o $out/libmodule.a
     write_tables >$out/tables.h
     for part in plain plain_read library driver; do
         compile -O3 -I$out -Ibench -c bench/$part.c -o $out/$part.o
     done
-    link_rust $out/plain.o $out/plain_read.o $out/library.o $out/driver.o $out/libmodule.a "$library" -o $out/driver
+    build_driver module
+    build_driver module-1 -C codegen-units=1 -C panic=abort
+}
+
+# COLUMN WORK BEFORE..: the driver that has the column, after the words that run it.
+drive() {
+    column=$1 work=$2
+    shift 2
+    case $column in
+    module-1) "$@" $out/driver-module-1 module "$work" ;;
+    *) "$@" $out/driver-module "$column" "$work" ;;
+    esac
 }
 
 # An emulator that takes plugins, and ours built for it; nothing where there is none.
 find_counter() {
-    emulator_with_plugins=${QEMU_PLUGINS:-$(command -v qemu-x86_64)} || return 0
-    cc -shared -fPIC -O2 -Wall -Wextra bench/count.c -o $out/count.so || return 0
-    "$emulator_with_plugins" -plugin $out/count.so,to=$out/trial.count $out/driver none year >/dev/null 2>&1 || return 0
-    echo "$emulator_with_plugins"
+    counter=${QEMU_PLUGINS:-$(command -v qemu-x86_64)} || counter=
+    [ -n "$counter" ] || return 0
+    cc -shared -fPIC -O2 -Wall -Wextra bench/count.c -o $out/count.so && count none year 2>/dev/null || counter=
 }
 
-# COLUMN WORK: a line of answers, seconds and digest.
-measure() { run $out/driver "$1" "$2" >"$out/$1.$2"; }
+# A line of answers, seconds and digest.
+measure() { drive "$1" "$2" run >"$out/$1.$2"; }
 
-# COLUMN WORK: the instructions that the work takes, by address.
-count() { "$counter" -plugin "$out/count.so,to=$out/$1.$2.count" $out/driver "$1" "$2" >/dev/null; }
+# The instructions that the work takes, by address. Without an environment: what stands on the stack moves what is below it, and a copy
+# takes some instructions more or less by how it lies.
+count() { drive "$1" "$2" env -i "$counter" -plugin "$out/count.so,to=$out/$1.$2.count" >/dev/null; }
 
 same_results() {
-    for column in plain library; do
+    for column in module-1 plain library; do
         module=$(cut -d' ' -f1,3 "$out/module.$1") other=$(cut -d' ' -f1,3 "$out/$column.$1")
         [ "$module" = "$other" ] || { echo "$1: the results of $column are not the module's" >&2; exit 1; }
     done
 }
 
-print_columns() {
-    awk -v m="$3" -v p="$4" -v l="$5" -v form="$2" -v label="$1" 'BEGIN {
-        printf "%-30s " form " " form " " form " %15.2f %14.2f\n", label, m, p, l, l / m, l / p }'
+# WORK OF FORM MODULE MODULE-1 PLAIN LIBRARY
+print_row() {
+    awk -v work="$1" -v of="$2" -v form=" %10$3" -v a="$4" -v b="$5" -v c="$6" -v d="$7" 'BEGIN {
+        printf "%-14s %-21s" form form form form "   %.2f %.2f %.2f\n", work, of, a, b, c, d, d / a, d / b, d / c }'
 }
 
-# WORK FIELD LABEL: one field of the three lines.
-print_row() {
-    field() { cut -d' ' -f"$2" "$out/$1"; }
-    answers=$(field "module.$1" 1)
-    print_columns "$1, $3" %12.4f "$(field "module.$1" "$2")" "$(field "plain.$1" "$2")" "$(field "library.$1" "$2")"
+seconds_row() {
+    seconds=$(for column in $columns; do cut -d' ' -f2 "$out/$column.$1"; done)
+    print_row "$1" seconds .3f $seconds
 }
 
 # Instructions a COLUMN needs for an answer (or a time read) of a WORK, beyond what the driver itself takes.
@@ -59,7 +77,8 @@ per_answer() {
 }
 
 count_row() {
-    for column in none module plain library; do count "$column" "$1"; done
-    print_columns "$1, instructions" %12.1f "$(per_answer module "$1")" "$(per_answer plain "$1")" "$(per_answer library "$1")"
-    echo "    per answer or time, of $answers"
+    for column in none $columns; do count "$column" "$1"; done
+    answers=$(cut -d' ' -f1 "$out/module.$1")
+    instructions=$(for column in $columns; do echo "$(per_answer "$column" "$1")"; done)
+    print_row "$1" "instructions/$answers" .1f $instructions
 }
