@@ -10,6 +10,9 @@ mod table;
 mod verdict;
 mod writing;
 
+// How many numbers of `out` a time takes: position, then velocity.
+pub const WIDTH: usize = 6;
+
 pub enum Told {
     Written,
     Refused(Refusal),

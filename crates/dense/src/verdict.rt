@@ -1,9 +1,9 @@
 // What a call is told, before anything is written: refusal 9, 3 or 4, in this order, or none.
 use crate::Told;
+use crate::WIDTH;
 use crate::interval;
 use crate::interval::Ends;
 use crate::table;
-use crate::writing;
 use refusals::Refusal;
 ghost use mathlib.Core.Path.{_≡_};
 ghost use Rattle.dense.specs.Intervals.{endsOf};
@@ -16,7 +16,7 @@ fn is_misshapen(times: &[f64], samples: &[f64], out: &[f64]) -> bool
     if samples.len() % 10 != 0 {
         return true;
     }
-    out.len() / writing::WIDTH < times.len()
+    out.len() / WIDTH < times.len()
 }
 
 // 4, of one time. A NaN is neither below nor above.

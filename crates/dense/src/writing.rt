@@ -1,13 +1,11 @@
 // What is written for each time, and where.
+use crate::WIDTH;
 use crate::interval;
 use crate::table;
 use quintic::Between;
 ghost use mathlib.Core.Path.{_≡_};
 ghost use Rattle.dense.specs.Intervals.{walkedTo};
 ghost use Rattle.dense.specs.Interpolation.{valueAt, put, putEach};
-
-// How many numbers a time takes.
-pub const WIDTH: usize = 6;
 
 // The quintic of interval k at t.
 pub fn value(samples: &[f64], k: usize, t: f64) -> Between

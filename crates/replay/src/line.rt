@@ -1,5 +1,6 @@
 // Lines out of pieces of the input, and what each asks for.
 use crate::Place;
+use crate::between;
 use crate::case;
 use crate::play;
 use crate::text;
@@ -78,8 +79,26 @@ fn deal_with(place: Place, line: &[u8], samples: &mut [f64]) -> usize {
     if words::is_text(line, first, b"final") {
         return deal_with_case(place, line, first.end, false, samples);
     }
+    if words::is_text(line, first, b"table") {
+        return between::take_table(place, line, first.end, samples);
+    }
+    let held = place.held;
+    if held <= samples.len() {
+        deal_with_times(place, line, &samples[..held]);
+    }
+    held
+}
+
+// A line that asks between the samples held.
+fn deal_with_times(place: Place, line: &[u8], samples: &[f64]) {
+    let first = words::next_word(line, 0);
+    if words::is_text(line, first, b"at") {
+        return between::tell_at(place, line, first.end, samples);
+    }
+    if words::is_text(line, first, b"batch") {
+        return between::tell_batch(place, line, first.end, samples);
+    }
     text::print_bad(place.number);
-    place.held
 }
 
 // A `case` is told whole; of a `final` only the end is, so that a year can stand in a list.

@@ -1,5 +1,6 @@
-// Cases on standard input, transcripts on standard output, in the oracle's format: every question, sample, state, count and
-// refusal of the proved library. Reads and writes in pieces; a misshapen line is answered `bad line N`, and the reading goes on.
+// Cases, tables and times on standard input, transcripts on standard output, in the oracle's format: every question, sample, state,
+// count and refusal of the proved library, and what it tells between samples. Reads and writes in pieces; a misshapen line is answered `bad line N`, and the reading goes on.
+mod between;
 mod case;
 mod force;
 mod line;
@@ -13,7 +14,7 @@ const LONGEST: usize = 32768;
 const ROOM: usize = 20010;
 
 // What is kept from line to line: the line's number from 1, how much of it is read (past LONGEST it is too long), and how many
-// numbers of samples the last case left.
+// numbers of samples the last case or table left.
 pub struct Place {
     pub number: u64,
     pub length: usize,

@@ -83,17 +83,31 @@ pub fn print_done(s: Solution) {
     print(&mut line, g);
 }
 
+fn put_floats(line: &mut [u8], at: usize, numbers: &[f64]) -> usize {
+    let mut n = at;
+    let mut i = 0usize;
+    while i < numbers.len() {
+        n = put_float(line, n, numbers[i]);
+        i += 1;
+    }
+    n
+}
+
 // `sample n` and its ten numbers.
 pub fn print_sample(n: usize, numbers: &[f64]) {
     let mut line = [0u8; WIDTH];
-    let mut at = put_text(&mut line, 0, b"sample");
-    at = put_decimal(&mut line, at, n as u64);
-    let mut i = 0usize;
-    while i < numbers.len() {
-        at = put_float(&mut line, at, numbers[i]);
-        i += 1;
-    }
-    print(&mut line, at);
+    let a = put_text(&mut line, 0, b"sample");
+    let b = put_decimal(&mut line, a, n as u64);
+    let c = put_floats(&mut line, b, numbers);
+    print(&mut line, c);
+}
+
+// `interp` and the numbers of one time.
+pub fn print_between(numbers: &[f64]) {
+    let mut line = [0u8; WIDTH];
+    let a = put_text(&mut line, 0, b"interp");
+    let b = put_floats(&mut line, a, numbers);
+    print(&mut line, b);
 }
 
 fn print_number(what: &[u8], n: u64) {

@@ -1,30 +1,25 @@
--- `text::print_sample` is safe and ends.
+-- `between::read_floats` is safe and ends.
 use Prim.Native.Nat.{_-_}
 use mathlib.Core.Path.{_≡_}
 use lib.ListN.{length}
 use borrow.Author.Needs.{needs}
-use Rattle.replay.proofs.text.print_sample.Statement.{statement}
-use Rattle.replay.proofs.text.print_sample.Tie as tie
+use Rattle.replay.proofs.between.read_floats.Statement.{statement}
+use Rattle.replay.proofs.between.read_floats.Tie as tie
 
 abbrev Inv-loop : tie.InvT-loop
-Inv-loop n numbers line₀ at₀ i₀ line at i = length line ≡ 512
+Inv-loop line from into₀ at₀ n₀ into at n = length into ≡ length into₀
 
 abbrev μ-loop : tie.MeasureT-loop
-μ-loop n numbers line₀ at₀ i₀ line at i = length numbers - i
+μ-loop line from into₀ at₀ n₀ into at n = length into₀ - n
 
-pub print-sample-spec : {M : Type 1} → statement M
-print-sample-spec =
+pub read-floats-spec : {M : Type 1} → statement M
+read-floats-spec =
     tie.close
     (tie.spec
     Inv-loop
     μ-loop
     (λ c. search needs)
-    (λ c. search needs)
     (λ c κs. search needs)
-    (λ c. search needs)
-    (λ c κs. search needs)
-    (λ c. search needs)
-    (λ c. search needs)
     (λ c. search needs)
     (λ c. search needs)
     (λ c κs. search needs)
@@ -33,4 +28,10 @@ print-sample-spec =
     (λ c. search needs)
     (λ c. search needs)
     (λ c κs. search needs)
+    (λ c. search needs)
+    (λ c. search needs)
+    (λ c. search needs)
+    (λ c. search needs)
+    (λ c. search needs)
+    (λ c. search needs)
     (λ c. search needs))
