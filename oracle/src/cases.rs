@@ -1,6 +1,7 @@
 //! Cases: random ones from a seed, and the stored list.
 use crate::force::Force;
 use crate::random::Random;
+use crate::tables;
 use crate::transcript::Case;
 use std::io::{self, Write};
 
@@ -37,7 +38,7 @@ fn clock(c: &Case, bound: usize) -> usize {
     n
 }
 
-const SPECIAL: [f64; 8] = [f64::NAN, f64::INFINITY, f64::NEG_INFINITY, 0.0, -0.0, 5e-324, f64::MAX, -1.0];
+pub const SPECIAL: [f64; 8] = [f64::NAN, f64::INFINITY, f64::NEG_INFINITY, 0.0, -0.0, 5e-324, f64::MAX, -1.0];
 const TOLERANCES: [f64; 12] = [0.0, 0.0, -1.0, -0.0, 1e-13, 1e-13, 1e-9, 1e-3, 1.0, 1e30, f64::INFINITY, f64::NAN];
 
 fn step(rng: &mut Random) -> f64 {
@@ -89,7 +90,7 @@ fn finish(rng: &mut Random, t0: f64, h: f64) -> f64 {
     }
 }
 
-fn component(rng: &mut Random) -> f64 {
+pub fn component(rng: &mut Random) -> f64 {
     match rng.below(24) {
         0 => rng.pick(&SPECIAL),
         1..=3 => rng.below(21) as f64 - 10.0,
@@ -256,11 +257,28 @@ const BAD: [&str; 6] = [
     "batch 3ff0000000000000 nan",
 ];
 
+/// Times asked of these cases' samples, if they leave any.
+fn asked(name: &str) -> Vec<String> {
+    tables::after_case(match name {
+        "edge-8" | "edge-15-by-2" | "edge-seven" => &[0.0],
+        "edge-17-by-2-samples" => &[0.0, 1.0, 2.0, 8.5, 16.0, 16.5, 17.0, f64::NAN],
+        "edge-back" => &[100.0, 95.0, 70.0, 69.0, 25.0, 20.0],
+        "edge-tenths" => &[0.0, 0.05, 0.1, 0.75, 0.7999999999999999, 0.8],
+        "minus-zero-start" => &[-0.0, 0.0, 3.5, 8.0, f64::NEG_INFINITY],
+        "past-the-end" => &[1.95, 2.0, 2.0000000000000004],
+        "equal-times" => &[9007199254740992.0, 9007199254740994.0, 9007199254741022.0, 9007199254741032.0],
+        _ => return vec![],
+    })
+}
+
 /// What `crates/replay` has as its standard input.
 pub fn list(out: &mut impl Write) -> io::Result<()> {
     writeln!(out, "# Made by: oracle list. The expected output is what the module says: oracle run.")?;
-    for c in edges().iter().chain(&corners()).chain(&grids()) {
-        writeln!(out, "{}", c.line())?;
+    let nothing = tables::after_case(&[0.0]);
+    let of_cases = edges().into_iter().chain(corners()).chain(grids());
+    let cases = of_cases.flat_map(|c| std::iter::once(c.line()).chain(asked(&c.name)));
+    for line in nothing.into_iter().chain(cases).chain(tables::list()) {
+        writeln!(out, "{line}")?;
     }
     writeln!(out, "\n# The year of one-minute steps, by its end: 525,600 steps, 1,576,925 answers.")?;
     writeln!(out, "{}", year().line().replacen("case", "final", 1))?;
@@ -268,6 +286,7 @@ pub fn list(out: &mut impl Write) -> io::Result<()> {
     for line in BAD {
         writeln!(out, "{line}")?;
     }
-    writeln!(out, "\n# Random cases.")?;
-    random(1, 180, out)
+    writeln!(out, "\n# Random cases and tables.")?;
+    random(1, 180, out)?;
+    tables::random(1, 60, out)
 }

@@ -4,12 +4,14 @@
 //!   oracle examples         01's "Examples at the edges", each beside what the module does
 //!   oracle list             the stored list of cases
 //!   oracle cases SEED N     N random cases
+//!   oracle tables SEED N    N random tables, with times asked between their samples
 //!   oracle orbit            the orbit of examples/, by its bits
 mod cases;
 mod examples;
 mod force;
 mod orbit;
 mod random;
+mod tables;
 mod transcript;
 
 include!(concat!(env!("OUT_DIR"), "/module.rs"));
@@ -25,16 +27,18 @@ fn main() -> io::Result<()> {
         ["examples"] => examples::print(&mut out)?,
         ["list"] => cases::list(&mut out)?,
         ["orbit"] => orbit::print(&mut out)?,
-        ["cases", seed, count] => {
-            let number = |w: &str| w.parse().unwrap_or_else(|_| usage());
-            cases::random(number(seed), number(count), &mut out)?
-        }
+        ["cases", seed, count] => cases::random(number(seed), number(count), &mut out)?,
+        ["tables", seed, count] => tables::random(number(seed), number(count), &mut out)?,
         _ => usage(),
     }
     out.flush()
 }
 
+fn number(word: &str) -> u64 {
+    word.parse().unwrap_or_else(|_| usage())
+}
+
 fn usage() -> ! {
-    eprintln!("usage: oracle run | examples | list | cases SEED N | orbit");
+    eprintln!("usage: oracle run | examples | list | cases SEED N | tables SEED N | orbit");
     std::process::exit(2)
 }
