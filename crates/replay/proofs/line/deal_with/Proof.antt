@@ -31,6 +31,11 @@ deal-with-spec =
     (λ c. search needs)
     (λ c. search needs)
     (λ c. search needs)
+    (λ c κs. search needs)
+    (λ c κs. search needs)
+    (λ c. search needs)
+    (λ c. search needs)
+    (λ c. search needs)
     slice-aggregate-deal-with-times
     (λ c κs. search needs)
     (λ c. search needs)
