@@ -13,6 +13,8 @@ ghost use mathlib.Core.Path.{_≡_};
 ghost use Rattle.run.specs.Plan.{defaultSettings};
 ghost use Rattle.gauss_jackson.specs.Answers.{answered, started, openQuestion};
 
+mod counted;
+mod samples;
 mod turns;
 
 // A force's question: answer it with the acceleration there, under its number.

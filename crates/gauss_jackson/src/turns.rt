@@ -8,6 +8,8 @@ use crate::Answered;
 use crate::Outcome;
 use crate::Question;
 use crate::Solution;
+use crate::counted;
+use crate::samples;
 use refusals::Refusal;
 use run::Body;
 use run::Count;
@@ -17,7 +19,6 @@ use run::Settings;
 use run::formulas;
 use run::moves;
 use run::questions;
-use run::samples;
 use run::waiting;
 use run::waiting::Stage;
 use run::waiting::Waiting;
@@ -190,7 +191,7 @@ fn end_pass(count: Count, b: Body, out: &mut [f64]) -> Answered
     requires { ⌜ b .«startup_iters» ≤ 1000 ⌝ }
     ensures { λ x. ⌜ (x ≡ passEnded count b (now (out .entry)) .got) × (now (out .exit) ≡ passEnded count b (now (out .entry)) .out) ⌝ }
 {
-    let next = moves::end_pass(b);
+    let next = counted::end_pass(b);
     if passes::is_settled(b.plan.settings.startup_tol, b.widest) {
         return end_startup(count, next, out);
     }
@@ -218,7 +219,7 @@ fn take_forward(i: u8, s: Stage, count: Count, b: Body, a: Triple) -> Answered
             moves::keep(s, b, a),
         ),
         Stage::Fourth => {
-            let next = moves::move_on(i, b, a);
+            let next = counted::move_on(i, b, a);
             if i < 7 {
                 return ask(Waiting::Forward(i + 1, Stage::First), count, next);
             }
@@ -248,7 +249,7 @@ fn take_backward(i: u8, s: Stage, count: Count, b: Body, a: Triple) -> Answered
             moves::keep(s, b, a),
         ),
         Stage::Fourth => {
-            let next = moves::move_back(i, b, a);
+            let next = counted::move_back(i, b, a);
             if i > 1 {
                 return ask(Waiting::Backward(i - 1, Stage::First), count, next);
             }
@@ -262,7 +263,7 @@ fn take_survey(i: u8, count: Count, b: Body, a: Triple, out: &mut [f64]) -> Answ
 {
     let next = moves::survey(i, b, a);
     if i < 8 {
-        return ask(Waiting::Survey(waiting::point_after(i)), count, next);
+        return ask(Waiting::Survey(counted::point_after(i)), count, next);
     }
     go_on_passing(count, next, out)
 }
@@ -273,7 +274,7 @@ fn take_pass(i: u8, count: Count, b: Body, a: Triple, out: &mut [f64]) -> Answer
 {
     let next = moves::renew(i, b, a);
     if i < 8 {
-        return ask(Waiting::Pass(waiting::point_after(i)), count, next);
+        return ask(Waiting::Pass(counted::point_after(i)), count, next);
     }
     end_pass(count, next, out)
 }
@@ -285,11 +286,11 @@ fn take_step(n: u8, count: Count, b: Body, a: Triple, out: &mut [f64]) -> Answer
 {
     let before = b.trial.state;
     if (n as u64) >= b.plan.settings.max_corrector_iters {
-        return end_step(count, moves::commit(b, before, a), out);
+        return end_step(count, counted::commit(b, before, a), out);
     }
     let after = sums::corrected(b.plan.h, b.track.sums, b.trial.fixed, a);
     if formulas::is_at_rest(b.plan.settings.corrector_tol, before, after) {
-        return end_step(count, moves::commit(b, after, a), out);
+        return end_step(count, counted::commit(b, after, a), out);
     }
     ask(Waiting::Step(n + 1), count, moves::try_state(b, after))
 }

@@ -1,5 +1,5 @@
 // The run: its records, and the mathematics of each waiting point by parts. Nothing here decides what an answer leads to; that is
-// `gauss_jackson`, which alone is meant for callers. A `requires` here keeps an index or a count in range.
+// `gauss_jackson`, which alone is meant for callers.
 use startup::Places;
 use startup::Widest;
 use sums::Fixed;
@@ -11,7 +11,6 @@ pub mod formulas;
 pub mod limits;
 pub mod moves;
 pub mod questions;
-pub mod samples;
 pub mod sound;
 pub mod waiting;
 

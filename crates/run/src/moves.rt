@@ -1,7 +1,6 @@
 // What an answer makes of the mathematics: from a body to the next, each by value.
 ghost use mathlib.Core.Path.{_≡_};
-ghost use Prim.Native.Nat.{_+_, _<_, _≤_};
-ghost use Rattle.run.specs.Moves.{freshBody, slopesWith, kept, stepEnd, movedOn, movedBack, surveyed, passBegun, renewed, passMade, launched, predicted, tried, tailEnd, committed};
+ghost use Rattle.run.specs.Moves.{freshBody, slopesWith, kept, stepEnd, surveyed, passBegun, renewed, launched, predicted, tried, tailEnd};
 use crate::Body;
 use crate::Plan;
 use crate::Slopes;
@@ -85,34 +84,10 @@ pub fn keep(s: Stage, b: Body, a: Triple) -> Body
 }
 
 // Where the open RK4 step from p over h ends, with its fourth acceleration.
-fn end_of(p: Point, h: f64, l: Slopes, a: Triple) -> State
+pub fn end_of(p: Point, h: f64, l: Slopes, a: Triple) -> State
     ensures { λ x. ⌜ x ≡ stepEnd p h l a ⌝ }
 {
     rk4::end_of_step(p, h, l.l1, l.l2, l.l3, a)
-}
-
-// The RK4 step on from point i has ended.
-pub fn move_on(i: u8, b: Body, a: Triple) -> Body
-    requires { ⌜ i < 8 ⌝ }
-    ensures { λ n. ⌜ n ≡ movedOn i b a ⌝ }
-{
-    let end = end_of(questions::grid_point(b, i), b.plan.h, b.slopes, a);
-    let places = startup::place(i + 1, end, b.places);
-    let mut next = b;
-    next.places = places;
-    next
-}
-
-// The RK4 step back from point i has ended.
-pub fn move_back(i: u8, b: Body, a: Triple) -> Body
-    requires { ⌜ 0 < i ⌝ }
-    ensures { λ n. ⌜ n ≡ movedBack i b a ⌝ }
-{
-    let end = end_of(questions::grid_point(b, i), -b.plan.h, b.slopes, a);
-    let places = startup::place(i - 1, end, b.places);
-    let mut next = b;
-    next.places = places;
-    next
 }
 
 // Point i, the epoch too, has its first acceleration.
@@ -150,16 +125,6 @@ pub fn renew(i: u8, b: Body, a: Triple) -> Body
     let mut next = b;
     next.a = new;
     next.widest = widest;
-    next
-}
-
-// One more startup pass is made.
-pub fn end_pass(b: Body) -> Body
-    requires { ⌜ b .«startup_iters» ≤ 1000 ⌝ }
-    ensures { λ n. ⌜ n ≡ passMade b ⌝ }
-{
-    let mut next = b;
-    next.startup_iters = b.startup_iters + 1;
     next
 }
 
@@ -211,23 +176,4 @@ pub fn end_of_tail(b: Body, a: Triple) -> State
 {
     let rem = formulas::left_at(b.plan, b.track.t);
     end_of(formulas::tail_from(b.track), rem, b.slopes, a)
-}
-
-// The step is made: at x, with the acceleration a.
-pub fn commit(b: Body, x: State, a: Triple) -> Body
-    requires { ⌜ b .track .steps ≤ 10000000000 ⌝ }
-    ensures { λ n. ⌜ n ≡ committed b x a ⌝ }
-{
-    let old = b.a;
-    let track = Track {
-        t: b.track.t + b.plan.h,
-        steps: b.track.steps + 1,
-        state: x,
-        sums: b.track.sums.on(a),
-    };
-    let window = nine::slid(old, a);
-    let mut next = b;
-    next.a = window;
-    next.track = track;
-    next
 }

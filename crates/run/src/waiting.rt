@@ -1,7 +1,6 @@
 // The waiting point: plain numbers in the run, one of these cases everywhere else.
 ghost use mathlib.Core.Path.{_≡_};
-ghost use Prim.Native.Nat.{_<_};
-ghost use Rattle.run.specs.Waiting.{stageNo, atOf, indexOf, stageOf, markOf, stageFrom, waitingOf, nextPoint};
+ghost use Rattle.run.specs.Waiting.{stageNo, atOf, indexOf, stageOf, markOf, stageFrom, waitingOf};
 use crate::Count;
 use crate::Mark;
 
@@ -147,12 +146,4 @@ pub fn waits_at(m: Mark) -> Waiting
         8 => Waiting::TailSample,
         _ => Waiting::Unknown,
     }
-}
-
-// The point asked after point i: the epoch is passed over.
-pub fn point_after(i: u8) -> u8
-    requires { ⌜ i < 8 ⌝ }
-    ensures { λ n. ⌜ n ≡ nextPoint i ⌝ }
-{
-    if i == 3 { 5 } else { i + 1 }
 }

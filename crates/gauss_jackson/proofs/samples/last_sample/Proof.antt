@@ -1,8 +1,8 @@
 -- `samples::last_sample` is `finalSample`.
 use mathlib.Core.Path.{refl}
 use Rattle.run.specs.Samples.{finalSample}
-use Rattle.run.proofs.samples.last_sample.Statement.{statement}
-use Rattle.run.proofs.samples.last_sample.Tie as tie
+use Rattle.gauss_jackson.proofs.samples.last_sample.Statement.{statement}
+use Rattle.gauss_jackson.proofs.samples.last_sample.Tie as tie
 
 returns : tie.Need-returns
 unfolding finalSample

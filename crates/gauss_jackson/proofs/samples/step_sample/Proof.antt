@@ -1,8 +1,8 @@
 -- `samples::step_sample` is `stepSample`.
 use borrow.Author.Needs.{needs}
 use Rattle.run.specs.Samples.{stepSample}
-use Rattle.run.proofs.samples.step_sample.Statement.{statement}
-use Rattle.run.proofs.samples.step_sample.Tie as tie
+use Rattle.gauss_jackson.proofs.samples.step_sample.Statement.{statement}
+use Rattle.gauss_jackson.proofs.samples.step_sample.Tie as tie
 
 returns : tie.Need-returns
 unfolding stepSample

@@ -1,9 +1,9 @@
 -- `samples::grid_sample` is `pointSample`.
 use borrow.Author.Needs.{needs}
 use Rattle.run.specs.Samples.{pointSample}
 use Rattle.startup.specs.Points.{pointAt}
-use Rattle.run.proofs.samples.grid_sample.Statement.{statement}
-use Rattle.run.proofs.samples.grid_sample.Tie as tie
+use Rattle.gauss_jackson.proofs.samples.grid_sample.Statement.{statement}
+use Rattle.gauss_jackson.proofs.samples.grid_sample.Tie as tie
 
 returns : tie.Need-returns
 unfolding pointSample pointAt

@@ -2,8 +2,8 @@
 ghost use mathlib.Core.Path.{_≡_};
 ghost use Prim.Native.Nat.{_+_, _*_, _≤_};
 ghost use lib.ListN.{length};
 ghost use Rattle.run.specs.Samples.{fits, put, putAll, pointSample, startSamples, stepSample, finalSample};
-use crate::Body;
+use run::Body;
 use triple::Sample;
 use triple::Triple;
 use triple::nine;

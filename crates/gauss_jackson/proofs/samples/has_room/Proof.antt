@@ -1,9 +1,9 @@
 -- `samples::has_room` is `fits`.
 use mathlib.Core.Path.{refl}
 use borrow.Author.Needs.{needs}
 use Rattle.run.specs.Samples.{fits}
-use Rattle.run.proofs.samples.has_room.Statement.{statement}
-use Rattle.run.proofs.samples.has_room.Tie as tie
+use Rattle.gauss_jackson.proofs.samples.has_room.Statement.{statement}
+use Rattle.gauss_jackson.proofs.samples.has_room.Tie as tie
 
 returns : tie.Need-returns
 unfolding fits

@@ -1,8 +1,8 @@
--- `moves::move_back` is `movedBack`.
+-- `counted::move_back` is `movedBack`.
 use borrow.Author.Needs.{needs}
 use Rattle.run.specs.Moves.{movedBack}
-use Rattle.run.proofs.moves.move_back.Statement.{statement}
-use Rattle.run.proofs.moves.move_back.Tie as tie
+use Rattle.gauss_jackson.proofs.counted.move_back.Statement.{statement}
+use Rattle.gauss_jackson.proofs.counted.move_back.Tie as tie
 
 returns : tie.Need-returns
 unfolding movedBack

@@ -2,9 +2,9 @@
 use mathlib.Core.Path.{refl}
 use lib.ListN.{length-set}
 use borrow.Author.Needs.{needs}
 use Rattle.run.specs.Samples.{put}
-use Rattle.run.proofs.samples.store.Statement.{statement}
-use Rattle.run.proofs.samples.store.Tie as tie
+use Rattle.gauss_jackson.proofs.samples.store.Statement.{statement}
+use Rattle.gauss_jackson.proofs.samples.store.Tie as tie
 
 same-length : tie.Need-same-length
 same-length c = simp length-set

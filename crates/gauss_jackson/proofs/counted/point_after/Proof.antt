@@ -1,9 +1,9 @@
--- `point_after` is `nextPoint`.
+-- `counted::point_after` is `nextPoint`.
 use borrow.Author.Needs.{needs}
 use borrow.Author.Tests.{eq-eqb, ne-eqb}
 use Rattle.run.specs.Waiting.{nextPoint}
-use Rattle.run.proofs.waiting.point_after.Statement.{statement}
-use Rattle.run.proofs.waiting.point_after.Tie as tie
+use Rattle.gauss_jackson.proofs.counted.point_after.Statement.{statement}
+use Rattle.gauss_jackson.proofs.counted.point_after.Tie as tie
 
 returns : tie.Need-returns
 unfolding nextPoint

@@ -1,9 +1,9 @@
--- `moves::commit` is `committed`.
+-- `counted::commit` is `committed`.
 use borrow.Author.Needs.{needs}
 use Rattle.run.specs.Formulas.{trackOn}
 use Rattle.run.specs.Moves.{committed}
-use Rattle.run.proofs.moves.commit.Statement.{statement}
-use Rattle.run.proofs.moves.commit.Tie as tie
+use Rattle.gauss_jackson.proofs.counted.commit.Statement.{statement}
+use Rattle.gauss_jackson.proofs.counted.commit.Tie as tie
 
 returns : tie.Need-returns
 unfolding committed trackOn

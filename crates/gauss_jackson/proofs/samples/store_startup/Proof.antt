@@ -1,10 +1,10 @@
 -- `store_startup` puts the five samples of the startup.
 use native.Mathlib.Omega.{arith}
 use borrow.Author.Needs.{needs}
 use Rattle.run.specs.Moves.{kept}
 use Rattle.run.specs.Samples.{putAll, startSamples}
-use Rattle.run.proofs.samples.store_startup.Statement.{statement}
-use Rattle.run.proofs.samples.store_startup.Tie as tie
+use Rattle.gauss_jackson.proofs.samples.store_startup.Statement.{statement}
+use Rattle.gauss_jackson.proofs.samples.store_startup.Tie as tie
 
 store-requires-4 : tie.Need-store-requires-4
 store-requires-4 c κs = omega (arith, c .before .before .before .before .before .before .before .before .before .before .before .before .before .before .store .kept, c .before .before .before .before .before .before .before .before .before .store2 .kept, c .before .before .before .before .store3 .kept, c .before .before .before .before .before .before .before .before .before .before .before .before .before .before .before .before .before .before .pre)

@@ -1,9 +1,9 @@
--- `moves::end_pass` is `passMade`.
+-- `counted::end_pass` is `passMade`.
 use mathlib.Core.Path.{refl}
 use borrow.Author.Needs.{needs}
 use Rattle.run.specs.Moves.{passMade}
-use Rattle.run.proofs.moves.end_pass.Statement.{statement}
-use Rattle.run.proofs.moves.end_pass.Tie as tie
+use Rattle.gauss_jackson.proofs.counted.end_pass.Statement.{statement}
+use Rattle.gauss_jackson.proofs.counted.end_pass.Tie as tie
 
 returns : tie.Need-returns
 unfolding passMade

@@ -1,8 +1,8 @@
--- `moves::move_on` is `movedOn`.
+-- `counted::move_on` is `movedOn`.
 use borrow.Author.Needs.{needs}
 use Rattle.run.specs.Moves.{movedOn}
-use Rattle.run.proofs.moves.move_on.Statement.{statement}
-use Rattle.run.proofs.moves.move_on.Tie as tie
+use Rattle.gauss_jackson.proofs.counted.move_on.Statement.{statement}
+use Rattle.gauss_jackson.proofs.counted.move_on.Tie as tie
 
 returns : tie.Need-returns
 unfolding movedOn
