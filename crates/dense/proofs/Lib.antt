@@ -1,2 +1,4 @@
 pub mod Reading
 pub mod Turns
+pub mod Nans
+pub mod Places

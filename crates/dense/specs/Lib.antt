@@ -1,3 +1,4 @@
 pub mod Table
 pub mod Intervals
 pub mod Interpolation
+pub mod Sentences

@@ -26,7 +26,7 @@ ten l p =
       a = three l (p + 7) (p + 8) (p + 9);
     }
 
-abbrev nans : Triple
+abbrev pub nans : Triple
 nans = record { x = nan; y = nan; z = nan }
 
 unfoldable pub noSample : Sample

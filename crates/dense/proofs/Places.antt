@@ -1,0 +1,79 @@
+-- Which places of the output are written: none past the times' own, and for every time of a call that writes.
+use Prim.Native.Nat.{ℕ, _+_, _*_, _/_, _%_, _<_, _≤_}
+use mathlib.Core.Path.{_≡_, refl, _∙_}
+use mathlib.Core.Bool.{Bool, true, false, cond, _||_, not}
+use mathlib.Core.List.{List, [], _∷_}
+use native.Mathlib.Omega.{arith}
+use lib.Dec.{ltb, eqb}
+use lib.ListN.{length, getD, set}
+use lib.Seq.{getD-set-other}
+use lib.Ieee.{Float, nan}
+use borrow.Author.Tests.{ltb-false}
+use Rattle.quintic.specs.declared.Between.{Between}
+use Rattle.refusals.specs.declared.Refusal.{Refusal}
+use Rattle.refusals.specs.declared.Refusal.the-variants.{NoDenseOutput, InterpOutOfBounds, Shape}
+use Rattle.dense.specs.declared.Told.{Told}
+use Rattle.dense.specs.declared.Told.the-variants.{Written, Refused}
+use Rattle.dense.specs.Table.{count}
+use Rattle.dense.specs.Intervals.{endsOf, intervalOf, walkedTo}
+use Rattle.dense.specs.Interpolation.{width, misshapen, anyOutside, judged, valueAt, put, putEach, unless, interpolated, batched}
+use Rattle.dense.specs.Sentences.{PastUntouched, PastUntouchedOne, RoomForAll}
+
+other : (l : List Float) (i : ℕ) (x : Float) (p : ℕ) → i < p → getD (set l i x) p nan ≡ getD l p nan
+other l i x p h = getD-set-other l i p x nan (λ e. omega arith)
+
+others : (l : List Float) (q p : ℕ) (a b c d e f : Float) → q + 6 ≤ p →
+    getD (set (set (set (set (set (set l q a) (q + 1) b) (q + 2) c) (q + 3) d) (q + 4) e) (q + 5) f) p nan ≡ getD l p nan
+others l q p a b c d e f h =
+    let h0 : q < p = omega arith in
+    let h1 : q + 1 < p = omega arith in
+    let h2 : q + 2 < p = omega arith in
+    let h3 : q + 3 < p = omega arith in
+    let h4 : q + 4 < p = omega arith in
+    let h5 : q + 5 < p = omega arith in
+    rw (other, other, other, other, other, other)
+
+put-past : (j : ℕ) (b : Between) (out : List Float) (p : ℕ) → width * j + width ≤ p → getD (put j b out) p nan ≡ getD out p nan
+unfolding put
+put-past j b out p h = by (ltb j (length out / width)) _ (others out (width * j) p _ _ _ _ _ _ h)
+  where
+    by : (t : Bool) (new : List Float) → getD new p nan ≡ getD out p nan → getD (cond t new out) p nan ≡ getD out p nan
+    by true new e = e
+    by false new e = refl
+
+each-past : (l : List Float) (j k : ℕ) (ts out : List Float) (p : ℕ) → width * (j + length ts) ≤ p → getD (putEach l j k ts out) p nan ≡ getD out p nan
+unfolding putEach
+each-past l j k [] out p h = refl
+each-past l j k (t ∷ ts) out p h =
+    each-past l (j + 1) (walkedTo l t k) ts (put j (valueAt l (walkedTo l t k) t) out) p (omega arith)
+    ∙ put-past j (valueAt l (walkedTo l t k) t) out p (omega arith)
+
+unless-past : (told : Told) (new old : List Float) (p : ℕ) → getD new p nan ≡ getD old p nan → getD (unless told new old) p nan ≡ getD old p nan
+unfolding unless
+unless-past Written new old p e = e
+unless-past (Refused r) new old p e = refl
+
+pub past-untouched : PastUntouched
+unfolding batched
+past-untouched times samples out p h = unless-past (judged times samples out) _ out p (each-past samples 0 0 times out p (omega arith))
+
+pub past-untouched-one : PastUntouchedOne
+unfolding interpolated
+past-untouched-one t samples out p h =
+    unless-past (judged (t ∷ []) samples out) _ out p (put-past 0 (valueAt samples (intervalOf samples t) t) out p (omega arith))
+
+-- a call that writes is not misshapen
+well-shaped : (m few any : Bool) → cond m (Refused Shape) (cond few (Refused NoDenseOutput) (cond any (Refused InterpOutOfBounds) Written)) ≡ Written → m ≡ false
+well-shaped false few any e = refl
+well-shaped true few any e = let z : _≡_ {A = ℕ} 0 1 = cc in absurd (omega arith)
+
+second : (a b : Bool) → (a || b) ≡ false → b ≡ false
+second false b e = e
+second true b e = let z : _≡_ {A = ℕ} 0 1 = cc in absurd (omega arith)
+
+pub room-for-all : RoomForAll
+unfolding judged misshapen
+room-for-all times samples out e j h =
+    let shaped = well-shaped (misshapen times samples out) (ltb (count samples) 2) (anyOutside (endsOf samples) times) e in
+    let fits : width * length times ≤ length out = ltb-false (length out) (width * length times) (second (not (eqb (length samples % 10) 0)) _ shaped) in
+    omega arith
