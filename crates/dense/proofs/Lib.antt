@@ -2,3 +2,5 @@ pub mod Reading
 pub mod Turns
 pub mod Nans
 pub mod Places
+pub mod Strict
+pub mod Inner

@@ -1,7 +1,6 @@
 -- A NaN time is neither below nor above any end, and its curve is NaN throughout.
-use Prim.Native.Nat.{ℕ}
-use mathlib.Core.Path.{_≡_, refl, ap}
-use mathlib.Core.Bool.{Bool, false, _||_}
+use mathlib.Core.Path.{_≡_, refl}
+use mathlib.Core.Bool.{false}
 use lib.Ieee.{Float, nan, inf, fin, binary64, add, sub, mul, div, lt}
 use Rattle.triple.specs.declared.Triple.{Triple}
 use Rattle.triple.specs.declared.Sample.{Sample}
@@ -12,7 +11,7 @@ use Rattle.dense.specs.Intervals.{endsOf}
 use Rattle.dense.specs.Interpolation.{outside, valueAt}
 use Rattle.dense.specs.Sentences.{NanNotRefused, NanGivesNan}
 
-none-above : (x : Float) → lt x nan ≡ false
+pub none-above : (x : Float) → lt x nan ≡ false
 unfolding lt
 none-above nan = refl
 none-above (inf s) = refl

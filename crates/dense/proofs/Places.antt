@@ -10,7 +10,6 @@ use lib.Seq.{getD-set-other}
 use lib.Ieee.{Float, nan}
 use borrow.Author.Tests.{ltb-false}
 use Rattle.quintic.specs.declared.Between.{Between}
-use Rattle.refusals.specs.declared.Refusal.{Refusal}
 use Rattle.refusals.specs.declared.Refusal.the-variants.{NoDenseOutput, InterpOutOfBounds, Shape}
 use Rattle.dense.specs.declared.Told.{Told}
 use Rattle.dense.specs.declared.Told.the-variants.{Written, Refused}

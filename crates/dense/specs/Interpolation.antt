@@ -2,12 +2,11 @@
 -- "9 shape: in interpolation: sample numbers not a multiple of 10, or output below 6 numbers a time"; "Interpolation 9, 3, 4; output past 6 numbers
 -- a time is untouched." A refusal leaves the output untouched, "for a batch wholly".
 use Prim.Native.Nat.{ℕ, _+_, _*_, _/_, _%_}
-use mathlib.Core.Bool.{Bool, true, false, _||_, not, cond}
+use mathlib.Core.Bool.{Bool, false, _||_, not, cond}
 use mathlib.Core.List.{List, [], _∷_}
 use lib.Dec.{ltb, eqb}
 use lib.ListN.{length, set}
 use lib.Ieee.{Float, lt}
-use Rattle.refusals.specs.declared.Refusal.{Refusal}
 use Rattle.refusals.specs.declared.Refusal.the-variants.{NoDenseOutput, InterpOutOfBounds, Shape}
 use Rattle.refusals.specs.Numbers.{numberOf}
 use Rattle.quintic.specs.declared.Between.{Between}

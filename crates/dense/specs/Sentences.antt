@@ -2,7 +2,7 @@
 use Prim.Native.Nat.{ℕ, _+_, _*_, _/_, _<_, _≤_}
 use mathlib.Core.Path.{_≡_}
 use mathlib.Core.Bool.{true, false}
-use mathlib.Core.List.{List, [], _∷_}
+use mathlib.Core.List.{List}
 use lib.ListN.{length, getD}
 use lib.Ieee.{Float, nan}
 use Rattle.dense.specs.declared.Told.the-variants.{Written}
@@ -31,7 +31,7 @@ abbrev pub NanGivesNan : Type 0
 NanGivesNan = (l : List Float) (k : ℕ) → valueAt l k nan ≡ record { r = nans; v = nans }
 
 -- "At an inner sample time the first uses the interval that starts there, a fresh batch the one that ends there" (Inner).
--- Sample n stands apart: every time before it is strictly short of its own, and its own of the next. So it does in a table in strict order.
+-- Sample n stands apart: every time before it is strictly short of its own, and its own of the next; as where the times are in strict order.
 pub record Apart (l : List Float) (n : ℕ) : Type 0 where
   pub behind : (i : ℕ) → i < n → short (forward l) (timeOf l i) (timeOf l n) ≡ true
   pub ahead : short (forward l) (timeOf l n) (timeOf l (n + 1)) ≡ true
