@@ -1,0 +1,53 @@
+//! A case, read from its line (the format is in the oracle).
+use crate::force::{Force, NAMES};
+use crate::raw::{Settings, Triple};
+
+#[derive(Clone)]
+pub struct Case {
+    pub t0: f64,
+    pub tf: f64,
+    pub settings: Settings,
+    pub r0: Triple,
+    pub v0: Triple,
+    pub force: Force,
+    pub p: [f64; 4],
+}
+
+impl Case {
+    pub fn read(line: &str) -> Option<Case> {
+        let words: Vec<&str> = line.split(' ').collect();
+        if words.len() != 22 || words[0] != "case" {
+            return None;
+        }
+        let f = |i: usize| u64::from_str_radix(words[i], 16).ok().map(f64::from_bits);
+        let n = |i: usize| words[i].parse::<u64>().ok();
+        let settings = Settings {
+            h: f(4)?,
+            max_corrector_iters: n(5)?,
+            corrector_tol: f(6)?,
+            max_startup_iters: n(7)?,
+            startup_tol: f(8)?,
+            max_steps: n(9)?,
+            samples: words[10] == "1",
+        };
+        Some(Case {
+            t0: f(2)?,
+            tf: f(3)?,
+            settings,
+            r0: Triple { x: f(11)?, y: f(12)?, z: f(13)? },
+            v0: Triple { x: f(14)?, y: f(15)?, z: f(16)? },
+            force: NAMES.iter().find(|(name, _)| *name == words[17])?.1,
+            p: [f(18)?, f(19)?, f(20)?, f(21)?],
+        })
+    }
+
+    /// The same case, ending where the clock stands after so many steps.
+    pub fn cut_after(&self, steps: u64) -> Case {
+        let h = self.settings.h.abs() * if self.tf >= self.t0 { 1.0 } else { -1.0 };
+        let mut t = self.t0 + 4.0 * h;
+        for _ in 4..steps {
+            t += h;
+        }
+        Case { tf: t, ..self.clone() }
+    }
+}

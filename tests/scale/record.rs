@@ -1,0 +1,75 @@
+//! What the module asks and gives in a case.
+use crate::case::Case;
+use crate::force::{Source, V3};
+use crate::gauss_jackson::{GJDenseOutput, GJSettings, GJSolution, GaussJackson8};
+use crate::raw::Triple;
+use numeris::ode::OdeError;
+
+/// A question, by time, position and velocity, and the acceleration that it was answered with.
+pub struct Asked {
+    pub at: [f64; 7],
+    pub a: Triple,
+}
+
+pub struct Record {
+    pub asked: Vec<Asked>,
+    pub end: Result<GJSolution<f64, 3>, OdeError>,
+    /// Sample n, as far as the module tells.
+    pub samples: Option<Vec<[f64; 10]>>,
+}
+
+pub fn tens(d: &GJDenseOutput<f64, 3>) -> Vec<[f64; 10]> {
+    let ten = |n: usize| {
+        let (r, v, a) = (&d.r[n], &d.v[n], &d.a[n]);
+        [d.t[n], r[0], r[1], r[2], v[0], v[1], v[2], a[0], a[1], a[2]]
+    };
+    (0..d.t.len()).map(ten).collect()
+}
+
+fn settings(case: &Case) -> GJSettings<f64> {
+    let s = &case.settings;
+    GJSettings {
+        h: s.h,
+        max_corrector_iters: s.max_corrector_iters as usize,
+        corrector_tol: s.corrector_tol,
+        max_startup_iters: s.max_startup_iters as usize,
+        startup_tol: s.startup_tol,
+        max_steps: s.max_steps as usize,
+        dense_output: s.samples,
+    }
+}
+
+fn play(case: &Case) -> Record {
+    let vector = |t: &Triple| V3::from_array([t.x, t.y, t.z]);
+    let mut source = Source::new(case.force, case.p);
+    let mut asked = vec![];
+    let force = |t: f64, r: &V3, v: &V3| {
+        let a = source.answer(t, r, v);
+        asked.push(Asked { at: [t, r[0], r[1], r[2], v[0], v[1], v[2]], a: Triple { x: a[0], y: a[1], z: a[2] } });
+        a
+    };
+    let end = GaussJackson8::integrate(case.t0, case.tf, &vector(&case.r0), &vector(&case.v0), force, &settings(case));
+    let samples = end.as_ref().ok().and_then(|s| s.dense.as_ref()).map(tens);
+    Record { asked, end, samples }
+}
+
+impl Record {
+    pub fn of(case: &Case) -> Record {
+        let mut record = play(case);
+        if record.end.is_err() && case.settings.samples {
+            record.samples = samples_before_refusal(case, &record);
+        }
+        record
+    }
+}
+
+/// On refusal 2 the module drops its samples. The same run to where its clock stood has them, if it ends there by as many answers.
+fn samples_before_refusal(case: &Case, refused: &Record) -> Option<Vec<[f64; 10]>> {
+    let steps = case.settings.max_steps;
+    if steps < 8 || refused.asked.is_empty() {
+        return None;
+    }
+    let shorter = play(&case.cut_after(steps));
+    let alike = matches!(&shorter.end, Ok(s) if s.steps as u64 == steps) && shorter.asked.len() == refused.asked.len();
+    shorter.samples.filter(|_| alike)
+}
