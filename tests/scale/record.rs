@@ -1,5 +1,6 @@
 //! What the module asks and gives in a case.
 use crate::case::Case;
+use crate::check::all_same;
 use crate::force::{Source, V3};
 use crate::gauss_jackson::{GJDenseOutput, GJSettings, GJSolution, GaussJackson8};
 use crate::raw::Triple;
@@ -63,13 +64,16 @@ impl Record {
     }
 }
 
-/// On refusal 2 the module drops its samples. The same run to where its clock stood has them, if it ends there by as many answers.
+/// On refusal 2 the module drops its samples. The same run to where its clock stood has them, if it ends there by the same questions;
+/// where the clock's rounding makes its last step a tail, it does not.
 fn samples_before_refusal(case: &Case, refused: &Record) -> Option<Vec<[f64; 10]>> {
     let steps = case.settings.max_steps;
     if steps < 8 || refused.asked.is_empty() {
         return None;
     }
     let shorter = play(&case.cut_after(steps));
-    let alike = matches!(&shorter.end, Ok(s) if s.steps as u64 == steps) && shorter.asked.len() == refused.asked.len();
-    shorter.samples.filter(|_| alike)
+    let pairs = || shorter.asked.iter().zip(&refused.asked);
+    let alike = shorter.asked.len() == refused.asked.len() && pairs().all(|(a, b)| all_same("", &a.at, &b.at).is_ok());
+    let ended = matches!(&shorter.end, Ok(s) if s.steps as u64 == steps);
+    shorter.samples.filter(|_| alike && ended)
 }
