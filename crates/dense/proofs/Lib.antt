@@ -1,6 +1,2 @@
 pub mod Reading
 pub mod Turns
-pub mod Nans
-pub mod Places
-pub mod Strict
-pub mod Inner

@@ -1,4 +1,3 @@
 pub mod Table
 pub mod Intervals
 pub mod Interpolation
-pub mod Sentences

@@ -6,10 +6,10 @@ use Rattle.triple.specs.declared.Triple.{Triple}
 use Rattle.triple.specs.declared.Sample.{Sample}
 use Rattle.triple.specs.Arithmetic.{plus, times}
 use Rattle.quintic.specs.Quintic.{positionOn, velocityOn, quinticAt}
 use Rattle.dense.specs.Table.{nans}
 use Rattle.dense.specs.Intervals.{endsOf}
 use Rattle.dense.specs.Interpolation.{outside, valueAt}
-use Rattle.dense.specs.Sentences.{NanNotRefused, NanGivesNan}
+use Rattle.sentences.specs.Sentences.{NanNotRefused, NanGivesNan}
 
 pub none-above : (x : Float) → lt x nan ≡ false
 unfolding lt

@@ -11,12 +11,12 @@ use lib.Ieee.{Float, nan}
 use borrow.Author.Tests.{ltb-false}
 use Rattle.quintic.specs.declared.Between.{Between}
 use Rattle.refusals.specs.declared.Refusal.the-variants.{NoDenseOutput, InterpOutOfBounds, Shape}
 use Rattle.dense.specs.declared.Told.{Told}
 use Rattle.dense.specs.declared.Told.the-variants.{Written, Refused}
 use Rattle.dense.specs.Table.{count}
 use Rattle.dense.specs.Intervals.{endsOf, intervalOf, walkedTo}
 use Rattle.dense.specs.Interpolation.{width, misshapen, anyOutside, judged, valueAt, put, putEach, unless, interpolated, batched}
-use Rattle.dense.specs.Sentences.{PastUntouched, PastUntouchedOne, RoomForAll}
+use Rattle.sentences.specs.Sentences.{PastUntouched, PastUntouchedOne, RoomForAll}
 
 other : (l : List Float) (i : ℕ) (x : Float) (p : ℕ) → i < p → getD (set l i x) p nan ≡ getD l p nan
 other l i x p h = getD-set-other l i p x nan (λ e. omega arith)

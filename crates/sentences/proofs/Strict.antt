@@ -7,8 +7,8 @@ use native.Mathlib.Nat.{le-refl}
 use lib.Dec.{ltb, eqb}
 use lib.Ieee.{Float, nan, inf, fin, up, down, below, level, lt, eq, le}
 use borrow.Author.Tests.{le-ltb, ltb-true, eqb-true, eq-eqb, ne-eqb}
 use Rattle.dense.specs.Intervals.{reached, short}
-use Rattle.dense.proofs.Nans.{none-above}
+use Rattle.sentences.proofs.Nans.{none-above}
 
 clash : {A : Type 0} → false ≡ true → A
 clash e = let z : _≡_ {A = ℕ} 0 1 = cc in absurd (omega arith)

@@ -9,11 +9,11 @@ use native.Mathlib.Numerals.{add-one}
 use native.Mathlib.Nat.{sub-zero, eq-or-lt-of-le}
 use lib.Ieee.{Float}
 use borrow.Author.Tests.{le-ltb}
 use Rattle.dense.specs.Table.{count, timeOf}
 use Rattle.dense.specs.Intervals.{forward, reached, firstPast, heldTo, short, walkOn, intervalOf, walkedTo}
-use Rattle.dense.specs.Sentences.{Apart, AtInnerSample}
+use Rattle.sentences.specs.Sentences.{Apart, AtInnerSample}
 use Rattle.dense.proofs.Turns.{past-on, past-here, walk-on, walk-here}
-use Rattle.dense.proofs.Strict.{short-reaches, short-fails, short-own, not-short}
+use Rattle.sentences.proofs.Strict.{short-reaches, short-fails, short-own, not-short}
 
 -- ---- n turns of each search
 module _ (f : Bool) (l : List Float) (t : Float) (m : ℕ) where

@@ -1,0 +1,4 @@
+pub mod Nans
+pub mod Places
+pub mod Strict
+pub mod Inner

@@ -1,0 +1,1 @@
+// What document 01 says of times between samples, as theorems about the definitions of `dense`. No code.
