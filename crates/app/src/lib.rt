@@ -113,9 +113,9 @@ fn answered_by(run: Run, number: u16, a: Triple, out: &mut [f64]) -> Replied
     ensures { λ x. ⌜ (x ≡ repliedOf (answered run number a (now (out .entry)) .got)) × (now (out .exit) ≡ answered run number a (now (out .entry)) .out) ⌝ }
 {
     let done = gauss_jackson::answer(run, number, a, out);
-    let next = done.run;
     let outcome = done.outcome;
     let reply = reply_of(outcome);
+    let next = done.run;
     Replied { run: next, reply }
 }
 

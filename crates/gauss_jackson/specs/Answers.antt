@@ -1,6 +1,6 @@
 -- What one call does: `started` and `answered` are what the contracts of `start` and `answer` cite. c counts the answers up to this one.
 use Prim.Native.Nat.{ℕ, _+_, _-_, _%_}
-use mathlib.Core.Bool.{Bool, false, cond}
+use mathlib.Core.Bool.{Bool, true, false, not, _&&_, cond}
 use mathlib.Core.List.{List, [], _∷_}
 use lib.Dec.{eqb, ltb}
 use lib.ListN.{length}
@@ -13,14 +13,17 @@ use Rattle.refusals.specs.declared.Refusal.{Refusal}
 use Rattle.refusals.specs.declared.Refusal.the-variants.{StepNotFinite, MaxStepsExceeded, Setting, SampleRoom, NoQuestion, NotThatQuestion}
 use Rattle.sums.specs.Sums.{correctedState}
 use Rattle.startup.specs.Passes.{settled}
+use Rattle.sums.specs.declared.Sums.{Sums}
 use Rattle.run.specs.declared.Settings.{Settings}
 use Rattle.run.specs.declared.Plan.{Plan}
 use Rattle.run.specs.declared.Count.{Count}
+use Rattle.run.specs.declared.Trial.{Trial}
 use Rattle.run.specs.declared.Body.{Body}
 use Rattle.run.specs.declared.Run.{Run}
 use Rattle.gauss_jackson.specs.declared.Question.{Question}
 use Rattle.gauss_jackson.specs.declared.Solution.{Solution}
 use Rattle.gauss_jackson.specs.declared.Answered.{Answered}
+use Rattle.gauss_jackson.specs.declared.steps.Judged.{Judged}
 use Rattle.gauss_jackson.specs.declared.Outcome.{Outcome}
 use Rattle.gauss_jackson.specs.declared.Outcome.the-variants.{Ask, Done, Refused}
 use Rattle.run.specs.declared.waiting.Stage.{Stage}
@@ -149,6 +152,19 @@ stepTaken n c b x out =
     (stepEnded c (committed b y x) out)
     (quiet (asking (Step (n + 1)) c (tried b y)) out))
     (stepEnded c (committed b (b .trial .state) x) out)
+
+-- ---- the same by parts, where the run stays at a step
+-- where the open step ends by the newest answer, and whether it is made there
+unfoldable pub judged : ℕ → Plan → Sums → Trial → Triple → Judged
+judged n p s t x =
+    let y = correctedState (p .h) s (t .fixed) x in
+    cond (ltb n (p .settings .«max_corrector_iters»))
+    (record { made = rests (p .settings .«corrector_tol») (t .state) y; state = y })
+    (record { made = true; state = t .state })
+
+-- whether a further step follows at t after n steps, and no sample is due
+unfoldable pub goesFurther : Plan → Float → ℕ → Bool
+goesFurther p t n = not (p .settings .samples) && goesOn p t && ltb n (p .settings .«max_steps») && not (isShort p t)
 
 -- "with samples one more question at tf, end at tf with one more step"
 unfoldable pub tailTaken : Stage → Count → Body → Triple → Answered

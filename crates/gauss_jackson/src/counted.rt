@@ -1,9 +1,11 @@
 // What raises a count or an index: each is in range where `turns` calls it, and has a `requires` that says so.
 ghost use mathlib.Core.Path.{_≡_};
 ghost use Prim.Native.Nat.{_<_, _≤_};
+ghost use Rattle.run.specs.Formulas.{trackOn};
 ghost use Rattle.run.specs.Waiting.{nextPoint};
 ghost use Rattle.run.specs.Moves.{movedOn, movedBack, passMade, committed};
 use run::Body;
+use run::Plan;
 use run::Track;
 use run::moves;
 use run::questions;
@@ -53,18 +55,26 @@ pub fn end_pass(b: Body) -> Body
     next
 }
 
+// The newest point one step on: at x, with the acceleration a.
+pub fn track_on(p: Plan, k: Track, x: State, a: Triple) -> Track
+    requires { ⌜ k .steps ≤ 10000000000 ⌝ }
+    ensures { λ n. ⌜ n ≡ trackOn p k x a ⌝ }
+{
+    Track {
+        t: k.t + p.h,
+        steps: k.steps + 1,
+        state: x,
+        sums: k.sums.on(a),
+    }
+}
+
 // The step is made: at x, with the acceleration a.
 pub fn commit(b: Body, x: State, a: Triple) -> Body
     requires { ⌜ b .track .steps ≤ 10000000000 ⌝ }
     ensures { λ n. ⌜ n ≡ committed b x a ⌝ }
 {
     let old = b.a;
-    let track = Track {
-        t: b.track.t + b.plan.h,
-        steps: b.track.steps + 1,
-        state: x,
-        sums: b.track.sums.on(a),
-    };
+    let track = track_on(b.plan, b.track, x, a);
     let window = nine::slid(old, a);
     let mut next = b;
     next.a = window;

@@ -8,6 +8,7 @@ use run::formulas;
 use run::limits;
 use run::sound;
 use run::waiting;
+use run::waiting::Waiting;
 use triple::Triple;
 ghost use mathlib.Core.Path.{_≡_};
 ghost use Rattle.run.specs.Plan.{defaultSettings};
@@ -15,6 +16,7 @@ ghost use Rattle.gauss_jackson.specs.Answers.{answered, started, openQue
 
 mod counted;
 mod samples;
+mod steps;
 mod turns;
 
 // A force's question: answer it with the acceleration there, under its number.
@@ -86,15 +88,29 @@ pub fn answer(run: Run, number: u16, a: Triple, out: &mut [f64]) -> Answered
         let outcome = Outcome::Refused(Refusal::NoQuestion);
         return Answered { run, outcome };
     }
-    let mark = run.mark;
-    if mark.count.number != number {
+    if run.mark.count.number != number {
         let outcome = Outcome::Refused(Refusal::NotThatQuestion);
         return Answered { run, outcome };
     }
-    let w = waiting::waits_at(mark);
-    let count = turns::next_count(mark.count);
+    let w = waiting::waits_at(run.mark);
+    let count = turns::next_count(run.mark.count);
+    let Waiting::Step(n) = w else {
+        let body = run.body;
+        let done = turns::take(w, count, body, a, out);
+        return done;
+    };
+    let judged = steps::judge(n, run.body.plan, run.body.track.sums, run.body.trial, a);
+    if !judged.made {
+        return steps::try_again(n, count, run, judged.state);
+    }
+    let track = counted::track_on(run.body.plan, run.body.track, judged.state, a);
+    if steps::goes_further(run.body.plan, track.t, track.steps) {
+        let body = run.body;
+        return steps::step_on(count, body, track, a);
+    }
     let body = run.body;
-    turns::take(w, count, body, a, out)
+    let done = turns::take(w, count, body, a, out);
+    done
 }
 
 // The open question of a run, told again; or 7 where none is open.

@@ -1,13 +1,12 @@
 -- `counted::commit` is `committed`.
 use borrow.Author.Needs.{needs}
-use Rattle.run.specs.Formulas.{trackOn}
 use Rattle.run.specs.Moves.{committed}
 use Rattle.gauss_jackson.proofs.counted.commit.Statement.{statement}
 use Rattle.gauss_jackson.proofs.counted.commit.Tie as tie
 
 returns : tie.Need-returns
-unfolding committed trackOn
-returns c = simp (c .slid .ensures, c .before .on .ensures)
+unfolding committed
+returns c = simp (c .slid .ensures, c .before .track-on .ensures)
 
 pub commit-spec : {M : Type 1} → statement M
-commit-spec = tie.close (tie.spec (λ c. search needs) (λ c κs. search needs) (λ c κs. search needs) returns)
+commit-spec = tie.close (tie.spec (λ c κs. search needs) (λ c κs. search needs) returns)
