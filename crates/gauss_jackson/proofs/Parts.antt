@@ -68,6 +68,23 @@ module _ (n : ℕ) (c : Count) (b : Body) (x : Triple) (out : List Float) where
   unfolding judged stepTaken
   now-made e = made-by (ltb n (b .plan .settings .«max_corrector_iters»)) e
 
+  module _ (j : Judged) (is : j ≡ judged n (b .plan) (b .track .sums) (b .trial) x) where
+    pub open-turn : j .made ≡ false → (n < b .plan .settings .«max_corrector_iters») × (stepTaken n c b x out ≡ quiet (asking (Step (n + 1)) c (tried b (j .state))) out)
+    open-turn f =
+        let h = still-open (ap (λ (d : Bool). not d) (sym (ap (λ (d : Judged). d .made) is) ∙ f)) in
+        (h .0, h .1 ∙ ap (λ (d : Judged). quiet (asking (Step (n + 1)) c (tried b (d .state))) out) (sym is))
+
+    pub left-open : (y : Body) (r : Answered) → j .made ≡ false → y ≡ tried b (j .state) → r ≡ asking (Step (n + 1)) c y → (r ≡ stepTaken n c b x out .got) × (out ≡ stepTaken n c b x out .out)
+    left-open y r f g h =
+        let t = open-turn f .1 ∙ ap (λ (d : Body). quiet (asking (Step (n + 1)) c d) out) (sym g) in
+        (h ∙ sym (ap (λ (d : Turn). d .got) t), sym (ap (λ (d : Turn). d .out) t))
+
+    pub made-there : (y : Body) (r : Answered) (o : List Float) → j .made ≡ true → y ≡ committed b (j .state) x
+        → (r ≡ stepEnded c y out .got) × (o ≡ stepEnded c y out .out) → (r ≡ stepTaken n c b x out .got) × (o ≡ stepTaken n c b x out .out)
+    made-there y r o f g h =
+        let t = now-made (ap (λ (d : Bool). not d) (sym (ap (λ (d : Judged). d .made) is) ∙ f)) ∙ ap (λ (d : Body). stepEnded c d out) (sym (g ∙ ap (λ (d : Judged). committed b (d .state) x) is)) in
+        (h .0 ∙ sym (ap (λ (d : Turn). d .got) t), h .1 ∙ sym (ap (λ (d : Turn). d .out) t))
+
 -- a further step follows
 pub further-on : (c : Count) (b : Body) (out : List Float) → goesFurther (b .plan) (b .track .t) (b .track .steps) ≡ true
     → stepEnded c b out ≡ quiet (asking (Step 0) c (predicted b)) out

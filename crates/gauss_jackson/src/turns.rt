@@ -10,6 +10,7 @@ use crate::Question;
 use crate::Solution;
 use crate::counted;
 use crate::samples;
+use crate::steps;
 use refusals::Refusal;
 use run::Body;
 use run::Count;
@@ -284,15 +285,15 @@ fn take_step(n: u8, count: Count, b: Body, a: Triple, out: &mut [f64]) -> Answer
     requires { ⌜ (b .plan .settings .«max_corrector_iters» ≤ 100) × (b .track .steps ≤ 1000000000) ⌝ }
     ensures { λ x. ⌜ (x ≡ stepTaken n count b a (now (out .entry)) .got) × (now (out .exit) ≡ stepTaken n count b a (now (out .entry)) .out) ⌝ }
 {
-    let before = b.trial.state;
-    if (n as u64) >= b.plan.settings.max_corrector_iters {
-        return end_step(count, counted::commit(b, before, a), out);
+    let judged = steps::judge(n, b.plan, b.track.sums, b.trial, a);
+    if judged.made {
+        return end_step(count, counted::commit(b, judged.state, a), out);
     }
-    let after = sums::corrected(b.plan.h, b.track.sums, b.trial.fixed, a);
-    if formulas::is_at_rest(b.plan.settings.corrector_tol, before, after) {
-        return end_step(count, counted::commit(b, after, a), out);
-    }
-    ask(Waiting::Step(n + 1), count, moves::try_state(b, after))
+    ask(
+        Waiting::Step(n + 1),
+        count,
+        moves::try_state(b, judged.state),
+    )
 }
 
 fn take_tail(s: Stage, count: Count, b: Body, a: Triple) -> Answered

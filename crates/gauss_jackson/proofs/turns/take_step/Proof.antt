@@ -1,49 +1,36 @@
 -- `take_step` is `stepTaken`.
-use mathlib.Core.Path.{refl, sym, _∙_}
+use mathlib.Core.List.{[]}
 use native.Mathlib.Omega.{arith}
 use borrow.Author.Needs.{needs}
-use borrow.Author.Tests.{lt-ltb, le-ltb}
 use Rattle.run.specs.Formulas.{trackOn}
 use Rattle.run.specs.Moves.{committed}
-use Rattle.gauss_jackson.specs.Answers.{stepTaken}
 use Rattle.gauss_jackson.proofs.turns.take_step.Statement.{statement}
+use Rattle.gauss_jackson.proofs.Parts.{open-turn, left-open, made-there}
 use Rattle.gauss_jackson.proofs.turns.take_step.Tie as tie
 
 end-step-requires : tie.Need-end-step-requires
 unfolding committed trackOn
-end-step-requires c κs = rw (c .before .commit .ensures) (omega (arith, c .before .before .before .before .before .before .pre .1))
+end-step-requires c κs = rw (c .before .commit .ensures) (omega (arith, c .before .before .before .before .before .pre .1))
 
 returns : tie.Need-returns
-unfolding stepTaken
-returns c = rw (le-ltb _ _ (c .before .before .before .before .before .if1 .taken), ← c .before .before .before .before .commit .ensures) (c .before .before .end-step .ensures)
+returns c = made-there _ _ _ _ _ _ (c .before .before .before .before .before .before .judge .ensures) _ _ _ (c .before .before .before .before .before .if1 .taken) (c .before .before .before .before .commit .ensures) (c .before .before .end-step .ensures)
 
-end-step-requires-2 : tie.Need-end-step-requires-2
-unfolding committed trackOn
-end-step-requires-2 c κs = rw (c .before .commit2 .ensures) (omega (arith, c .before .before .before .before .before .before .before .before .before .pre .1))
+add-t11 : tie.Need-add-t11
+add-t11 c = omega (arith, open-turn _ (c .before .before .before .args .count) (c .before .before .before .args .b) (c .before .before .before .args .a) [] _ (c .before .judge .ensures) (c .if1 .left) .0, c .before .before .before .pre .0)
 
 returns-2 : tie.Need-returns-2
-unfolding stepTaken
-returns-2 c = rw (lt-ltb _ _ (c .before .before .before .before .before .before .before .before .if1 .left), ← c .before .before .before .before .before .before .before .corrected .ensures, sym (c .before .before .before .before .before .before .is-at-rest .ensures) ∙ c .before .before .before .before .before .if2 .taken, ← c .before .before .before .before .commit2 .ensures) (c .before .before .end-step2 .ensures)
-
-returns-3 : tie.Need-returns-3
-unfolding stepTaken
-returns-3 c = rw (lt-ltb _ _ (c .before .before .before .before .before .if1 .left), ← c .before .before .before .before .corrected .ensures, sym (c .before .before .before .is-at-rest .ensures) ∙ c .before .before .if2 .left, ← c .before .try-state .ensures) (c .ask .ensures, refl)
+returns-2 c = left-open _ _ _ _ _ _ (c .before .before .before .judge .ensures) _ _ (c .before .before .if1 .left) (c .before .try-state .ensures) (c .ask .ensures)
 
 pub take-step-spec : {M : Type 1} → statement M
 take-step-spec =
     tie.close
     (tie.spec
     (λ c κs. search needs)
+    (λ c κs. search needs)
     end-step-requires
     (λ c. search needs)
     returns
+    add-t11
     (λ c κs. search needs)
     (λ c κs. search needs)
-    (λ c κs. search needs)
-    end-step-requires-2
-    (λ c. search needs)
-    returns-2
-    (λ c. search needs)
-    (λ c κs. search needs)
-    (λ c κs. search needs)
-    returns-3)
+    returns-2)
