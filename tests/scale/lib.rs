@@ -38,9 +38,9 @@ fn take(line: &str, n: u64, rng: &mut Random, tally: &mut Tally) -> check::Verdi
     Ok(())
 }
 
-/// Compares all cases, or as many as fit in so many seconds; 0 where all agree, 1 at the first that differs.
+/// Compares so many cases, or as many as fit in so many seconds; 0 where all agree, 1 at the first that differs, 2 where cases are missing.
 #[no_mangle]
-pub extern "C" fn scale(seed: u64, seconds: u64) -> i32 {
+pub extern "C" fn scale(count: u64, seed: u64, seconds: u64) -> i32 {
     let began = Instant::now();
     let mut rng = Random(seed ^ 0x5ca1e);
     let mut tally = Tally::default();
@@ -54,10 +54,11 @@ pub extern "C" fn scale(seed: u64, seconds: u64) -> i32 {
         if tally.cases % 10_000 == 0 {
             println!("{} cases in {spent:.0} s", tally.cases);
         }
-        if spent >= seconds as f64 {
-            break;
+        if tally.cases == count || spent >= seconds as f64 {
+            tally.print(seed, spent);
+            return 0;
         }
     }
-    tally.print(seed, began.elapsed().as_secs_f64());
-    0
+    println!("only {} cases came of {count}", tally.cases);
+    2
 }
