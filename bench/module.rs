@@ -54,17 +54,7 @@ fn three(v: &V3) -> [f64; 3] {
     [v[0], v[1], v[2]]
 }
 
-fn settings(s: &Settings) -> GJSettings<f64> {
-    GJSettings {
-        h: s.h,
-        max_corrector_iters: s.max_corrector_iters as usize,
-        corrector_tol: s.corrector_tol,
-        max_startup_iters: s.max_startup_iters as usize,
-        startup_tol: s.startup_tol,
-        max_steps: s.max_steps as usize,
-        dense_output: s.samples,
-    }
-}
+include!("../tools/settings.rs");
 
 /// The samples as tens, so that their bits can be compared.
 fn copy(dense: &GJDenseOutput<f64, 3>, out: &mut [f64]) {

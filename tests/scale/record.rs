@@ -3,7 +3,7 @@ use crate::case::Case;
 use crate::check::all_same;
 use crate::force::{Source, V3};
 use crate::gauss_jackson::{GJDenseOutput, GJSettings, GJSolution, GaussJackson8};
-use crate::raw::Triple;
+use crate::raw::{Settings, Triple};
 use numeris::ode::OdeError;
 
 /// A question, by time, position and velocity, and the acceleration that it was answered with.
@@ -27,18 +27,7 @@ pub fn tens(d: &GJDenseOutput<f64, 3>) -> Vec<[f64; 10]> {
     (0..d.t.len()).map(ten).collect()
 }
 
-fn settings(case: &Case) -> GJSettings<f64> {
-    let s = &case.settings;
-    GJSettings {
-        h: s.h,
-        max_corrector_iters: s.max_corrector_iters as usize,
-        corrector_tol: s.corrector_tol,
-        max_startup_iters: s.max_startup_iters as usize,
-        startup_tol: s.startup_tol,
-        max_steps: s.max_steps as usize,
-        dense_output: s.samples,
-    }
-}
+include!("../../tools/settings.rs");
 
 fn play(case: &Case) -> Record {
     let vector = |t: &Triple| V3::from_array([t.x, t.y, t.z]);
@@ -49,7 +38,7 @@ fn play(case: &Case) -> Record {
         asked.push(Asked { at: [t, r[0], r[1], r[2], v[0], v[1], v[2]], a: Triple { x: a[0], y: a[1], z: a[2] } });
         a
     };
-    let end = GaussJackson8::integrate(case.t0, case.tf, &vector(&case.r0), &vector(&case.v0), force, &settings(case));
+    let end = GaussJackson8::integrate(case.t0, case.tf, &vector(&case.r0), &vector(&case.v0), force, &settings(&case.settings));
     let samples = end.as_ref().ok().and_then(|s| s.dense.as_ref()).map(tens);
     Record { asked, end, samples }
 }
