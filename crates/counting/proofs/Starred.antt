@@ -18,10 +18,10 @@ use Rattle.rules.specs.Rules.{integrate}
 use Rattle.rules.specs.Asked.{clock}
 use Rattle.counting.specs.Paths.{Always}
 use Rattle.counting.specs.Clockwork.{Fate, arrives, tails, runs-out, fateFrom, fateOf, stepsOf, plainSteps, tailAnswers, most, NeverStops, Counted, gridTime, sampleTime, clockwork}
-use Rattle.counting.proofs.Starts.{too-near, over-limit}
+use Rattle.counting.proofs.Starts.{accepted-start, too-near, over-limit}
 use Rattle.counting.proofs.Claims.{always-follows}
 use Rattle.counting.proofs.Marching.{by-the-clock}
-use Rattle.counting.specs.Starred.{Expected, no-run, finishes, exceeds-at, At, expecting, Meets, Row, starredRows, AllMeet}
+use Rattle.counting.specs.Starred.{Expected, no-run, finishes, exceeds-at, At, expecting, Accepted, Meets, Row, starredRows, AllMeet}
 
 -- the times of the first n samples
 unfoldable timesUpTo : Plan → Fate → ℕ → (n : ℕ) → List Float
@@ -129,11 +129,11 @@ module _ (p : Plan) (never : NeverStops p) where
       (λ (e n : ℕ) (c : Unit {0} × ((s : ℕ) × Counted p (runs-out m) e n s)). met (runs-out m) e n (c .1 .0) (c .1 .1)) 0 0 (integrate p r0 v0) h
 
 module _ (s : Settings) (t0 tf : Float) (r0 v0 : Triple) (never : NeverStops (planOf s t0 tf)) where
-  meets-fate : (f : Fate) → Always (clockwork (planOf s t0 tf) f) 0 0 (integrate (planOf s t0 tf) r0 v0) → Meets s t0 tf r0 v0 (ofFate (planOf s t0 tf) f)
+  meets-fate : (f : Fate) → Accepted s t0 tf r0 v0 → Always (clockwork (planOf s t0 tf) f) 0 0 (integrate (planOf s t0 tf) r0 v0) → Meets s t0 tf r0 v0 (ofFate (planOf s t0 tf) f)
   unfolding ofFate
-  meets-fate (arrives u m) h = fate-meets (planOf s t0 tf) never (arrives u m) r0 v0 h
-  meets-fate (tails m) h = fate-meets (planOf s t0 tf) never (tails m) r0 v0 h
-  meets-fate (runs-out m) h = fate-meets (planOf s t0 tf) never (runs-out m) r0 v0 h
+  meets-fate (arrives u m) g h = (g, fate-meets (planOf s t0 tf) never (arrives u m) r0 v0 h)
+  meets-fate (tails m) g h = (g, fate-meets (planOf s t0 tf) never (tails m) r0 v0 h)
+  meets-fate (runs-out m) g h = (g, fate-meets (planOf s t0 tf) never (runs-out m) r0 v0 h)
 
   run-is : fateOf (planOf s t0 tf) ≡ runFate (planOf s t0 tf)
   unfolding runFate fateOf
@@ -146,7 +146,7 @@ module _ (s : Settings) (t0 tf : Float) (r0 v0 : Triple) (never : NeverStops (pl
       go : (a b : Bool) → withinLimits s ≡ a → tooNear (planOf s t0 tf) ≡ b
           → Meets s t0 tf r0 v0 (cond a (cond b (no-run 1) (ofFate (planOf s t0 tf) (runFate (planOf s t0 tf)))) (no-run 5))
       go true true h k = too-near s t0 tf r0 v0 h k
-      go true false h k = meets-fate (runFate (planOf s t0 tf))
+      go true false h k = meets-fate (runFate (planOf s t0 tf)) (accepted-start s t0 tf r0 v0 h k)
           (subst (λ (f : Fate). Always (clockwork (planOf s t0 tf) f) 0 0 (integrate (planOf s t0 tf) r0 v0)) run-is (by-the-clock (planOf s t0 tf) r0 v0))
       go false b h k = over-limit s t0 tf r0 v0 b h k
 

@@ -11,7 +11,7 @@ use Rattle.triple.specs.Arithmetic.{nought}
 use Rattle.run.specs.declared.Settings.{Settings}
 use Rattle.run.specs.Plan.{withinLimits, planOf}
 use Rattle.rules.specs.Rules.{integrate}
-use Rattle.rules.specs.Walk.{refused, begin}
+use Rattle.rules.specs.Walk.{refused, settle, begin}
 use Rattle.counting.specs.Paths.{Claims, Always}
 
 -- what must come out, whatever the accelerations are
@@ -37,10 +37,14 @@ expecting (finishes t steps answers times) =
 expecting (exceeds-at answers) =
     record { sample = λ (n : ℕ) (x : Float). Unit {0}; finish = λ (e n : ℕ) (x : Float) (k s : ℕ). ⊥; excess = λ (e n : ℕ). e ≡ answers }
 
+-- the start is accepted, and goes by the whole tree
+abbrev pub Accepted : Settings → Float → Float → Triple → Triple → Type 0
+Accepted s t0 tf r0 v0 = begin s t0 tf r0 v0 ≡ settle (integrate (planOf s t0 tf) r0 v0) 0 0 []
+
 abbrev pub Meets : Settings → Float → Float → Triple → Triple → Expected → Type 0
 Meets s t0 tf r0 v0 (no-run i) = begin s t0 tf r0 v0 .said ≡ refused i
-Meets s t0 tf r0 v0 (finishes t steps answers times) = Always (expecting (finishes t steps answers times)) 0 0 (integrate (planOf s t0 tf) r0 v0)
-Meets s t0 tf r0 v0 (exceeds-at answers) = Always (expecting (exceeds-at answers)) 0 0 (integrate (planOf s t0 tf) r0 v0)
+Meets s t0 tf r0 v0 (finishes t steps answers times) = Accepted s t0 tf r0 v0 × Always (expecting (finishes t steps answers times)) 0 0 (integrate (planOf s t0 tf) r0 v0)
+Meets s t0 tf r0 v0 (exceeds-at answers) = Accepted s t0 tf r0 v0 × Always (expecting (exceeds-at answers)) 0 0 (integrate (planOf s t0 tf) r0 v0)
 
 -- ---- the table
 pub record Row : Type 0 where
