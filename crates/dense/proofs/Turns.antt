@@ -8,7 +8,7 @@ use native.Mathlib.Numerals.{add-one}
 use lib.Dec.{ltb}
 use lib.ListN.{length, getD, drop, drop-of-length-le}
 use lib.Seq.{drop-cons}
-use lib.Ieee.{Float, nan}
+use lib.Ieee.{Float, nan, le}
 use borrow.Author.Tests.{lt-ltb, le-ltb, ltb-true, ltb-false}
 use Rattle.dense.specs.declared.interval.Ends.{Ends}
 use Rattle.dense.specs.Table.{timeOf}
@@ -47,6 +47,24 @@ module _ (f : Bool) (l : List Float) (t : Float) (m n : ℕ) where
   pub walk-end : m ≤ n → walkOn f l t (m - n) n ≡ n
   unfolding walkOn
   walk-end h = rw (none-left m n h)
+
+-- ---- the same, where it is known how the table runs; x is the time that was read
+module _ (l : List Float) (t : Float) (m n : ℕ) (x : Float) (h : n < m) (is : x ≡ timeOf l n) where
+  pub later-on : le x t ≡ true → firstPast true l t (m - n) n ≡ firstPast true l t (m - (n + 1)) (n + 1)
+  unfolding firstPast reached
+  later-on e = rw (one-left m n h, ← is, e)
+
+  pub later-here : le x t ≡ false → firstPast true l t (m - n) n ≡ n
+  unfolding firstPast reached
+  later-here e = rw (one-left m n h, ← is, e)
+
+  pub earlier-on : le t x ≡ true → firstPast false l t (m - n) n ≡ firstPast false l t (m - (n + 1)) (n + 1)
+  unfolding firstPast reached
+  earlier-on e = rw (one-left m n h, ← is, e)
+
+  pub earlier-here : le t x ≡ false → firstPast false l t (m - n) n ≡ n
+  unfolding firstPast reached
+  earlier-here e = rw (one-left m n h, ← is, e)
 
 -- ---- the times that are looked at, and written
 module _ (times : List Float) (j : ℕ) (h : j < length times) where
