@@ -7,7 +7,17 @@ use Rattle.gauss_jackson.specs.declared.Solution.{Solution}
 use Rattle.gauss_jackson.specs.declared.Answered.{Answered}
 use Rattle.gauss_jackson.specs.declared.Outcome.{Outcome}
 use Rattle.gauss_jackson.specs.declared.Outcome.the-variants.{Ask, Done, Refused}
+use mathlib.Core.List.{List}
+use Rattle.triple.specs.declared.Triple.{Triple}
+use Rattle.run.specs.declared.Plan.{Plan}
+use Rattle.run.specs.declared.Track.{Track}
+use Rattle.run.specs.declared.Trial.{Trial}
+use Rattle.run.specs.declared.Run.{Run}
+use Rattle.quick.specs.declared.Look.{Look}
+use Rattle.quick.specs.Quick.{triedBy, steppedBy}
 use Rattle.app.specs.declared.Reply.{Reply}
+use Rattle.app.specs.declared.TriedReply.{TriedReply}
+use Rattle.app.specs.declared.SteppedReply.{SteppedReply}
 use Rattle.app.specs.declared.Replied.{Replied}
 
 -- kind 0: the next question
@@ -30,3 +40,47 @@ replyOf (Refused e) = refusedBy e
 
 abbrev pub repliedOf : Answered → Replied
 repliedOf d = record { run = d .run; reply = replyOf (d .outcome) }
+
+-- ---- by parts, where the run stays at a step
+unfoldable pub triedReply : Look → Plan → Track → Trial → TriedReply
+triedReply l p k t = record { mark = triedBy l p k t .mark; trial = triedBy l p k t .trial; reply = asksFor (triedBy l p k t .question) }
+
+unfoldable pub steppedReply : Look → Plan → Track → List Triple → Triple → SteppedReply
+steppedReply l p k old x =
+    let d = steppedBy l p k old x in
+    record { mark = d .mark; a = d .a; track = d .track; trial = d .trial; reply = asksFor (d .question) }
+
+-- the run with what changes
+abbrev pub triedRun : Run → TriedReply → Run
+triedRun run d =
+    record {
+      mark = d .mark;
+      body =
+          record {
+            plan = run .body .plan;
+            places = run .body .places;
+            a = run .body .a;
+            slopes = run .body .slopes;
+            widest = run .body .widest;
+            «startup_iters» = run .body .«startup_iters»;
+            track = run .body .track;
+            trial = d .trial;
+          };
+    }
+
+abbrev pub steppedRun : Run → SteppedReply → Run
+steppedRun run d =
+    record {
+      mark = d .mark;
+      body =
+          record {
+            plan = run .body .plan;
+            places = run .body .places;
+            a = d .a;
+            slopes = run .body .slopes;
+            widest = run .body .widest;
+            «startup_iters» = run .body .«startup_iters»;
+            track = d .track;
+            trial = d .trial;
+          };
+    }

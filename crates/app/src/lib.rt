@@ -3,16 +3,22 @@
 use gauss_jackson::Outcome;
 use gauss_jackson::Question;
 use gauss_jackson::Solution;
+use quick::Look;
 use refusals::Refusal;
+use run::Mark;
+use run::Plan;
 use run::Run;
 use run::Settings;
+use run::Track;
+use run::Trial;
 use triple::Triple;
 ghost use mathlib.Core.Path.{_≡_};
 ghost use Rattle.gauss_jackson.specs.Answers.{started, answered, openQuestion};
 ghost use Rattle.run.specs.Plan.{defaultSettings};
 ghost use mathlib.Core.List.{[], _∷_};
 ghost use Rattle.dense.specs.Interpolation.{judged, numberTold, interpolated, batched};
-ghost use Rattle.app.specs.Reply.{replyOf, asksFor, finishedAt, refusedBy, repliedOf};
+ghost use Rattle.app.specs.Reply.{replyOf, asksFor, finishedAt, refusedBy, repliedOf, triedReply, steppedReply, triedRun, steppedRun};
+ghost use Rattle.quick.specs.Quick.{keptSample, trackBy};
 
 // An outcome in plain numbers. `kind` is 0 for a question, 1 for the finished state, 2 for a refusal; what a kind has no use for is zero.
 #[repr(C)]
@@ -119,6 +125,61 @@ fn answered_by(run: Run, number: u16, a: Triple, out: &mut [f64]) -> Replied
     Replied { run: next, reply }
 }
 
+// What changes where the open step is tried once more, and the reply.
+struct TriedReply {
+    mark: Mark,
+    trial: Trial,
+    reply: Reply,
+}
+
+// What changes where a step is made and the next one is open, and the reply.
+struct SteppedReply {
+    mark: Mark,
+    a: [Triple; 9],
+    track: Track,
+    trial: Trial,
+    reply: Reply,
+}
+
+fn tried_by(look: Look, plan: Plan, track: Track, trial: Trial, out: &mut [f64]) -> TriedReply
+    ensures { λ x. ⌜ (x ≡ triedReply look plan track trial) × (now (out .exit) ≡ now (out .entry)) ⌝ }
+{
+    let done = quick::ask_again(look, plan, track, trial);
+    let mark = done.mark;
+    let next = done.trial;
+    let reply = asks_for(done.question);
+    TriedReply {
+        mark,
+        trial: next,
+        reply,
+    }
+}
+
+fn stepped_by(
+    look: Look,
+    plan: Plan,
+    track: Track,
+    old: [Triple; 9],
+    a: Triple,
+    out: &mut [f64],
+) -> SteppedReply
+    ensures { λ x. ⌜ (x ≡ steppedReply look plan track old a) × (now (out .exit) ≡ keptSample plan (trackBy look plan track a) a (now (out .entry))) ⌝ }
+{
+    let done = quick::make_step(look, plan, track, old, a, out);
+    let mark = done.mark;
+    let window = done.a;
+    let next = done.track;
+    let trial = done.trial;
+    let reply = asks_for(done.question);
+    SteppedReply {
+        mark,
+        a: window,
+        track: next,
+        trial,
+        reply,
+    }
+}
+
 fn open_in(run: Run) -> Reply
     ensures { λ x. ⌜ x ≡ replyOf (openQuestion run) ⌝ }
 {
@@ -149,9 +210,34 @@ pub extern "C" fn gj_start(
     done.reply
 }
 
-// An answer: the lent run moves on, or stays as it is where the answer is refused by 7 or 8. `out` is the sample buffer.
-#[no_mangle]
-pub extern "C" fn gj_answer(run: &mut Run, number: u16, a: Triple, out: &mut [f64]) -> Reply
+// The lent run, whose open step is tried once more: only what changes is stored.
+fn try_again(run: &mut Run, look: Look, out: &mut [f64]) -> Reply
+    ensures { λ x. ⌜ (x ≡ triedReply look (now (run .entry) .body .plan) (now (run .entry) .body .track) (now (run .entry) .body .trial) .reply)
+        × (now (run .exit) ≡ triedRun (now (run .entry)) (triedReply look (now (run .entry) .body .plan) (now (run .entry) .body .track) (now (run .entry) .body .trial)))
+        × (now (out .exit) ≡ now (out .entry)) ⌝ }
+{
+    let done = tried_by(look, run.body.plan, run.body.track, run.body.trial, out);
+    run.mark = done.mark;
+    run.body.trial = done.trial;
+    done.reply
+}
+
+// The lent run, whose open step is made.
+fn step_on(run: &mut Run, look: Look, a: Triple, out: &mut [f64]) -> Reply
+    ensures { λ x. ⌜ (x ≡ steppedReply look (now (run .entry) .body .plan) (now (run .entry) .body .track) (now (run .entry) .body .a) a .reply)
+        × (now (run .exit) ≡ steppedRun (now (run .entry)) (steppedReply look (now (run .entry) .body .plan) (now (run .entry) .body .track) (now (run .entry) .body .a) a))
+        × (now (out .exit) ≡ keptSample (now (run .entry) .body .plan) (trackBy look (now (run .entry) .body .plan) (now (run .entry) .body .track) a) a (now (out .entry))) ⌝ }
+{
+    let done = stepped_by(look, run.body.plan, run.body.track, run.body.a, a, out);
+    run.mark = done.mark;
+    run.body.a = done.a;
+    run.body.track = done.track;
+    run.body.trial = done.trial;
+    done.reply
+}
+
+// The lent run by any answer: copied out, and put back whole.
+fn take_turn(run: &mut Run, number: u16, a: Triple, out: &mut [f64]) -> Reply
     ensures { λ x. ⌜ (x ≡ replyOf (answered (now (run .entry)) number a (now (out .entry)) .got .outcome))
         × (now (run .exit) ≡ answered (now (run .entry)) number a (now (out .entry)) .got .run)
         × (now (out .exit) ≡ answered (now (run .entry)) number a (now (out .entry)) .out) ⌝ }
@@ -159,6 +245,32 @@ pub extern "C" fn gj_answer(run: &mut Run, number: u16, a: Triple, out: &mut [f6
     let done = answered_by(*run, number, a, out);
     *run = done.run;
     done.reply
+}
+
+// An answer: the lent run moves on, or stays as it is where the answer is refused by 7 or 8. `out` is the sample buffer.
+#[no_mangle]
+pub extern "C" fn gj_answer(run: &mut Run, number: u16, a: Triple, out: &mut [f64]) -> Reply
+    ensures { λ x. ⌜ (x ≡ replyOf (answered (now (run .entry)) number a (now (out .entry)) .got .outcome))
+        × (now (run .exit) ≡ answered (now (run .entry)) number a (now (out .entry)) .got .run)
+        × (now (out .exit) ≡ answered (now (run .entry)) number a (now (out .entry)) .out) ⌝ }
+{
+    let look = quick::look_at(
+        run.mark,
+        run.body.plan,
+        run.body.track,
+        run.body.trial,
+        run.body.startup_iters,
+        number,
+        a,
+        out.len(),
+    );
+    if look.again {
+        return try_again(run, look, out);
+    }
+    if look.on {
+        return step_on(run, look, a, out);
+    }
+    take_turn(run, number, a, out)
 }
 
 // The question that the run waits for, once more; refusal 7 where there is none.
