@@ -9,7 +9,7 @@ use Rattle.triple.specs.declared.Triple.{Triple}
 use Rattle.run.specs.declared.Mark.{Mark}
 use Rattle.run.specs.declared.Run.{Run}
 use Rattle.run.specs.Formulas.{stepPoint}
-use Rattle.run.specs.Questions.{question, endPoint}
+use Rattle.run.specs.Questions.{questionAt, endPoint}
 use Rattle.run.specs.Moves.{tried, arrived, predicted}
 use Rattle.gauss_jackson.specs.Answers.{Turn, asking, questionOf, answered}
 use Rattle.quick.specs.declared.Look.{Look}
@@ -23,7 +23,7 @@ module _ (run : Run) (number : ℕ) (x : Triple) (out : List Float) (l : Look)
       → (triedReply l (run .body .plan) (run .body .track) (run .body .trial) .reply ≡ replyOf (answered run number x out .got .outcome))
       × (triedRun run (triedReply l (run .body .plan) (run .body .track) (run .body .trial)) ≡ answered run number x out .got .run)
       × (out ≡ answered run number x out .out)
-  unfolding triedReply triedBy asking questionOf question endPoint stepPoint tried replyOf
+  unfolding triedReply triedBy asking questionOf questionAt endPoint stepPoint tried replyOf
   again-turn e =
       let h = is-again run number x out l is e in (
         ap (λ (m : Mark). asksFor (record { number = m .count .number; t = add binary64 (run .body .track .t) (run .body .plan .h); r = l .state .r; v = l .state .v })) (h .mark)
@@ -37,7 +37,7 @@ module _ (run : Run) (number : ℕ) (x : Triple) (out : List Float) (l : Look)
       → (steppedReply l (run .body .plan) (run .body .track) (run .body .a) x .reply ≡ replyOf (answered run number x out .got .outcome))
       × (steppedRun run (steppedReply l (run .body .plan) (run .body .track) (run .body .a) x) ≡ answered run number x out .got .run)
       × (keptSample (run .body .plan) (trackBy l (run .body .plan) (run .body .track) x) x out ≡ answered run number x out .out)
-  unfolding steppedReply steppedBy trackBy asking questionOf question endPoint stepPoint predicted arrived replyOf
+  unfolding steppedReply steppedBy trackBy asking questionOf questionAt endPoint stepPoint predicted arrived replyOf
   on-turn e =
       let h = is-on run number x out l is e in (
         ap (λ (m : Mark). steppedReply (record { again = l .again; on = l .on; mark = m; state = l .state; steps = l .steps }) (run .body .plan) (run .body .track) (run .body .a) x .reply) (h .mark)

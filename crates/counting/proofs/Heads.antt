@@ -9,7 +9,7 @@ use borrow.Author.Tests.{le-ltb, ne-eqb}
 use Rattle.triple.specs.declared.Sample.{Sample}
 use Rattle.startup.specs.Points.{timeAt}
 use Rattle.run.specs.declared.Plan.{Plan}
-use Rattle.run.specs.Formulas.{goesOn, isShort}
+use Rattle.run.specs.Formulas.{isDue, isTail}
 use Rattle.rules.specs.Rules.{Course, stores}
 use Rattle.rules.specs.Asked.{clock}
 use Rattle.counting.specs.Paths.{Claims, Each, Always}
@@ -52,12 +52,12 @@ nearer i n (runs-out m) l h = omega arith
 
 pub ahead : (left : ℕ) (p : Plan) (t : Float) (n : ℕ) → Ahead n (fateFrom left p t n)
 unfolding fateFrom
-ahead zero p t n = go (goesOn p t)
+ahead zero p t n = go (isDue p t)
   where
     go : (b : Bool) → Ahead n (cond b (runs-out n) (arrives t n))
     go true = omega arith
     go false = omega arith
-ahead (suc left) p t n = go (goesOn p t) (isShort p t) (nearer n (n + 1) (fateFrom left p (add binary64 t (p .h)) (n + 1)) (omega arith) (ahead left p (add binary64 t (p .h)) (n + 1)))
+ahead (suc left) p t n = go (isDue p t) (isTail p t) (nearer n (n + 1) (fateFrom left p (add binary64 t (p .h)) (n + 1)) (omega arith) (ahead left p (add binary64 t (p .h)) (n + 1)))
   where
     go : (b s : Bool) → Ahead n (fateFrom left p (add binary64 t (p .h)) (n + 1))
         → Ahead n (cond b (cond s (tails n) (fateFrom left p (add binary64 t (p .h)) (n + 1))) (arrives t n))

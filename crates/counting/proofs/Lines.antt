@@ -15,7 +15,7 @@ use Rattle.triple.specs.declared.State.{State}
 use Rattle.triple.specs.declared.Point.{Point}
 use Rattle.triple.specs.declared.Sample.{Sample}
 use Rattle.triple.specs.Arithmetic.{zeros}
-use Rattle.run.specs.Samples.{fits, put, putAll}
+use Rattle.run.specs.Samples.{hasRoom, put, putAll}
 use Rattle.rules.specs.Rules.{Course, asks, stores, ends, exceeds}
 use Rattle.rules.specs.Walk.{Said, question, finished, refused, Call, Result, open-at, over, Stop, settle, turn, walk}
 use Rattle.counting.specs.Paths.{Claims, Each, Always}
@@ -55,8 +55,8 @@ unfolding Each
 each-more P n m [] rs e h k = let f : m ≡ n = omega arith in subst (λ (i : ℕ). Each P i rs) f k
 each-more P n m (s ∷ ss) rs e h k = (h .0, each-more P (n + 1) m ss rs (omega arith) (h .1) k)
 
-fitting : (j m : ℕ) (out : List Float) → 10 * (j + m) ≤ length out → fits j m out ≡ true
-unfolding fits
+fitting : (j m : ℕ) (out : List Float) → 10 * (j + m) ≤ length out → hasRoom j m out ≡ true
+unfolding hasRoom
 fitting j m out h = le-leb (10 * (j + m)) (length out) h
 
 -- nothing, and one row after another

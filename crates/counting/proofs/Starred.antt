@@ -12,8 +12,8 @@ use Rattle.triple.specs.Size.{absolute}
 use Rattle.startup.specs.Points.{offset, timeAt}
 use Rattle.run.specs.declared.Settings.{Settings}
 use Rattle.run.specs.declared.Plan.{Plan}
-use Rattle.run.specs.Plan.{withinLimits, direction, planOf, tooNear}
-use Rattle.run.specs.Formulas.{remains, goesOn, isShort}
+use Rattle.run.specs.Plan.{areWithinLimits, directionOf, planOf, isTooNear}
+use Rattle.run.specs.Formulas.{leftAt, isDue, isTail}
 use Rattle.rules.specs.Rules.{integrate}
 use Rattle.rules.specs.Asked.{clock}
 use Rattle.counting.specs.Paths.{Always}
@@ -47,23 +47,23 @@ pick-is true f g = refl
 pick-is false f g = refl
 
 unfoldable fateRun : (left : ℕ) → Plan → Float → ℕ → Fate
-fateRun zero p t n = pick (goesOn p t) (λ (u : Unit {0}). runs-out n) (λ (u : Unit {0}). arrives t n)
+fateRun zero p t n = pick (isDue p t) (λ (u : Unit {0}). runs-out n) (λ (u : Unit {0}). arrives t n)
 fateRun (suc left) p t n =
-    pick (goesOn p t) (λ (u : Unit {0}). pick (isShort p t) (λ (v : Unit {0}). tails n) (λ (v : Unit {0}). fateRun left p (add binary64 t (p .h)) (n + 1)))
+    pick (isDue p t) (λ (u : Unit {0}). pick (isTail p t) (λ (v : Unit {0}). tails n) (λ (v : Unit {0}). fateRun left p (add binary64 t (p .h)) (n + 1)))
     (λ (u : Unit {0}). arrives t n)
 
 fate-run : (left : ℕ) (p : Plan) (t : Float) (n : ℕ) → fateRun left p t n ≡ fateFrom left p t n
 unfolding fateRun fateFrom
-fate-run zero p t n = pick-is (goesOn p t) _ _
+fate-run zero p t n = pick-is (isDue p t) _ _
 fate-run (suc left) p t n =
-    pick-is (goesOn p t) _ _
-    ∙ ap (λ (f : Fate). cond (goesOn p t) f (arrives t n)) (pick-is (isShort p t) _ _ ∙ ap (λ (f : Fate). cond (isShort p t) (tails n) f) (fate-run left p (add binary64 t (p .h)) (n + 1)))
+    pick-is (isDue p t) _ _
+    ∙ ap (λ (f : Fate). cond (isDue p t) f (arrives t n)) (pick-is (isTail p t) _ _ ∙ ap (λ (f : Fate). cond (isTail p t) (tails n) f) (fate-run left p (add binary64 t (p .h)) (n + 1)))
 
 unfoldable runFate : Plan → Fate
 runFate p = fateRun (p .settings .«max_steps» - 4) p (timeAt (p .t0) (p .h) 8) 4
 
 unfoldable foretold : Settings → Float → Float → Expected
-foretold s t0 tf = cond (withinLimits s) (cond (tooNear (planOf s t0 tf)) (no-run 1) (ofFate (planOf s t0 tf) (runFate (planOf s t0 tf)))) (no-run 5)
+foretold s t0 tf = cond (areWithinLimits s) (cond (isTooNear (planOf s t0 tf)) (no-run 1) (ofFate (planOf s t0 tf) (runFate (planOf s t0 tf)))) (no-run 5)
 
 -- ---- the computed test
 unfoldable foretoldRows : List Row → List Expected
@@ -75,7 +75,7 @@ expectedRows [] = []
 expectedRows (r ∷ rs) = r .expected ∷ expectedRows rs
 
 rows-agree : foretoldRows starredRows ≡ expectedRows starredRows
-unfolding foretoldRows expectedRows foretold ofFate withinLimits tooNear planOf direction runFate fateRun pick goesOn isShort remains timeAt offset allTimes timesUpTo sampleTime gridTime clock most plainSteps tailAnswers stepsOf absolute ofInt round add sub mul div neg lt le eq
+unfolding foretoldRows expectedRows foretold ofFate areWithinLimits isTooNear planOf directionOf runFate fateRun pick isDue isTail leftAt timeAt offset allTimes timesUpTo sampleTime gridTime clock most plainSteps tailAnswers stepsOf absolute ofInt round add sub mul div neg lt le eq
 rows-agree = refl
 
 -- ---- the law: what is foretold comes out
@@ -141,9 +141,9 @@ module _ (s : Settings) (t0 tf : Float) (r0 v0 : Triple) (never : NeverStops (pl
 
   foretells : Meets s t0 tf r0 v0 (foretold s t0 tf)
   unfolding foretold
-  foretells = go (withinLimits s) (tooNear (planOf s t0 tf)) refl refl
+  foretells = go (areWithinLimits s) (isTooNear (planOf s t0 tf)) refl refl
     where
-      go : (a b : Bool) → withinLimits s ≡ a → tooNear (planOf s t0 tf) ≡ b
+      go : (a b : Bool) → areWithinLimits s ≡ a → isTooNear (planOf s t0 tf) ≡ b
           → Meets s t0 tf r0 v0 (cond a (cond b (no-run 1) (ofFate (planOf s t0 tf) (runFate (planOf s t0 tf)))) (no-run 5))
       go true true h k = too-near s t0 tf r0 v0 h k
       go true false h k = meets-fate (runFate (planOf s t0 tf)) (accepted-start s t0 tf r0 v0 h k)

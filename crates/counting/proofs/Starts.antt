@@ -5,7 +5,7 @@ use mathlib.Core.List.{[]}
 use lib.Ieee.{Float}
 use Rattle.triple.specs.declared.Triple.{Triple}
 use Rattle.run.specs.declared.Settings.{Settings}
-use Rattle.run.specs.Plan.{withinLimits, planOf, tooNear}
+use Rattle.run.specs.Plan.{areWithinLimits, planOf, isTooNear}
 use Rattle.rules.specs.Rules.{integrate}
 use Rattle.rules.specs.Walk.{refused, over, Stop, settle, begin}
 
@@ -14,16 +14,16 @@ abbrev begins : Settings → Float → Float → Triple → Triple → Bool → 
 begins s t0 tf r0 v0 a b =
     cond a (cond b (record { said = refused 1; out = []; line = over }) (settle (integrate (planOf s t0 tf) r0 v0) 0 0 [])) (record { said = refused 5; out = []; line = over })
 
-begin-is : (s : Settings) (t0 tf : Float) (r0 v0 : Triple) (a b : Bool) → withinLimits s ≡ a → tooNear (planOf s t0 tf) ≡ b → begin s t0 tf r0 v0 ≡ begins s t0 tf r0 v0 a b
+begin-is : (s : Settings) (t0 tf : Float) (r0 v0 : Triple) (a b : Bool) → areWithinLimits s ≡ a → isTooNear (planOf s t0 tf) ≡ b → begin s t0 tf r0 v0 ≡ begins s t0 tf r0 v0 a b
 unfolding begin
-begin-is s t0 tf r0 v0 a b h k = ap (λ (c : Bool). begins s t0 tf r0 v0 c (tooNear (planOf s t0 tf))) h ∙ ap (begins s t0 tf r0 v0 a) k
+begin-is s t0 tf r0 v0 a b h k = ap (λ (c : Bool). begins s t0 tf r0 v0 c (isTooNear (planOf s t0 tf))) h ∙ ap (begins s t0 tf r0 v0 a) k
 
-pub accepted-start : (s : Settings) (t0 tf : Float) (r0 v0 : Triple) → withinLimits s ≡ true → tooNear (planOf s t0 tf) ≡ false
+pub accepted-start : (s : Settings) (t0 tf : Float) (r0 v0 : Triple) → areWithinLimits s ≡ true → isTooNear (planOf s t0 tf) ≡ false
     → begin s t0 tf r0 v0 ≡ settle (integrate (planOf s t0 tf) r0 v0) 0 0 []
 accepted-start s t0 tf r0 v0 h k = begin-is s t0 tf r0 v0 true false h k
 
-pub too-near : (s : Settings) (t0 tf : Float) (r0 v0 : Triple) → withinLimits s ≡ true → tooNear (planOf s t0 tf) ≡ true → begin s t0 tf r0 v0 .said ≡ refused 1
+pub too-near : (s : Settings) (t0 tf : Float) (r0 v0 : Triple) → areWithinLimits s ≡ true → isTooNear (planOf s t0 tf) ≡ true → begin s t0 tf r0 v0 .said ≡ refused 1
 too-near s t0 tf r0 v0 h k = ap (λ (x : Stop). x .said) (begin-is s t0 tf r0 v0 true true h k)
 
-pub over-limit : (s : Settings) (t0 tf : Float) (r0 v0 : Triple) (b : Bool) → withinLimits s ≡ false → tooNear (planOf s t0 tf) ≡ b → begin s t0 tf r0 v0 .said ≡ refused 5
+pub over-limit : (s : Settings) (t0 tf : Float) (r0 v0 : Triple) (b : Bool) → areWithinLimits s ≡ false → isTooNear (planOf s t0 tf) ≡ b → begin s t0 tf r0 v0 .said ≡ refused 5
 over-limit s t0 tf r0 v0 b h k = ap (λ (x : Stop). x .said) (begin-is s t0 tf r0 v0 false b h k)

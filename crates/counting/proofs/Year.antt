@@ -7,7 +7,7 @@ use lib.IntN.{pos}
 use lib.Ieee.{Float, binary64, ofInt}
 use Rattle.triple.specs.Arithmetic.{nought}
 use Rattle.run.specs.declared.Settings.{Settings}
-use Rattle.run.specs.Plan.{withinLimits}
+use Rattle.run.specs.Plan.{areWithinLimits}
 use Rattle.counting.specs.Counting.{spanOf, stepsFor, tailFor, plainFor, tailAnswersFor, mostFor, Bounds}
 
 abbrev year : Settings
@@ -23,7 +23,7 @@ year =
     }
 
 pub year-within : Bounds year (ofInt binary64 (pos 0)) (ofInt binary64 (pos 31_536_000)) (pos 0) (pos 31_536_000) (pos 60)
-unfolding withinLimits spanOf stepsFor
+unfolding areWithinLimits spanOf stepsFor
 year-within =
     record {
       start-whole = inl refl;

@@ -9,7 +9,7 @@ use Rattle.triple.specs.declared.Triple.{Triple}
 use Rattle.triple.specs.Arithmetic.{nought}
 use Rattle.startup.specs.Points.{timeAt}
 use Rattle.run.specs.declared.Plan.{Plan}
-use Rattle.run.specs.Formulas.{goesOn, isShort}
+use Rattle.run.specs.Formulas.{isDue, isTail}
 use Rattle.rules.specs.Rules.{integrate}
 use Rattle.rules.specs.Asked.{clock}
 use Rattle.counting.specs.Paths.{Claims, Always}
@@ -22,9 +22,9 @@ pub data Fate : Type 0 where
 
 -- "While (tf - t)·dir > 0: test max_steps; [..] If abs(rem) - abs(h) < -1e-12·abs(h): [tail] Else: [..] t = t + h, one step"
 unfoldable pub fateFrom : (left : ℕ) → Plan → Float → ℕ → Fate
-fateFrom zero p t n = cond (goesOn p t) (runs-out n) (arrives t n)
+fateFrom zero p t n = cond (isDue p t) (runs-out n) (arrives t n)
 fateFrom (suc left) p t n =
-    cond (goesOn p t) (cond (isShort p t) (tails n) (fateFrom left p (add binary64 t (p .h)) (n + 1))) (arrives t n)
+    cond (isDue p t) (cond (isTail p t) (tails n) (fateFrom left p (add binary64 t (p .h)) (n + 1))) (arrives t n)
 
 -- from the end of the startup: "t = t0 + 4·h, steps = 4"
 unfoldable pub fateOf : Plan → Fate

@@ -9,7 +9,7 @@ use lib.Signed.{leZ}
 use lib.Ieee.{Float}
 use Rattle.triple.specs.declared.Triple.{Triple}
 use Rattle.run.specs.declared.Settings.{Settings}
-use Rattle.run.specs.Plan.{withinLimits, planOf, tooNear}
+use Rattle.run.specs.Plan.{areWithinLimits, planOf, isTooNear}
 use Rattle.rules.specs.Rules.{integrate}
 use Rattle.whole.specs.Whole.{IsWhole}
 use Rattle.counting.specs.Paths.{Claims, Always}
@@ -76,7 +76,7 @@ pub record Bounds (s : Settings) (t0 tf : Float) (z0 zf hz : ℤ) : Type 0 where
   pub step-size : natAbs hz ≤ 10 ^ 9
   pub moves : 1 ≤ natAbs hz
   pub far : 8 * natAbs hz ≤ spanOf z0 zf
-  pub limits : withinLimits s ≡ true
+  pub limits : areWithinLimits s ≡ true
   pub enough : stepsFor (spanOf z0 zf) (natAbs hz) ≤ s .«max_steps»
 
 -- the finished state, after e answers and n samples: on time, in K steps, within the bounds
@@ -104,5 +104,5 @@ onTime s t0 tf z0 zf step =
 
 -- a start within the bounds is accepted, and every path of its tree ends on time
 pub record EndsOnTime (s : Settings) (t0 tf : Float) (z0 zf hz : ℤ) (r0 v0 : Triple) : Type 0 where
-  pub accepted : tooNear (planOf s t0 tf) ≡ false
+  pub accepted : isTooNear (planOf s t0 tf) ≡ false
   pub always : Always (onTime s t0 tf z0 zf (natAbs hz)) 0 0 (integrate (planOf s t0 tf) r0 v0)

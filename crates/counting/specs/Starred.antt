@@ -9,7 +9,7 @@ use lib.Ieee.{Float, nan, inf, fin, binary64, ofInt, eq, isNan}
 use Rattle.triple.specs.declared.Triple.{Triple}
 use Rattle.triple.specs.Arithmetic.{nought}
 use Rattle.run.specs.declared.Settings.{Settings}
-use Rattle.run.specs.Plan.{withinLimits, planOf}
+use Rattle.run.specs.Plan.{areWithinLimits, planOf}
 use Rattle.rules.specs.Rules.{integrate}
 use Rattle.rules.specs.Walk.{refused, settle, begin}
 use Rattle.counting.specs.Paths.{Claims, Always}
@@ -108,8 +108,8 @@ isFinite (fin s m e) = true
 -- a start that is the end too, where it is finite and h is no NaN: elsewhere span/h is NaN, which is not below 8
 abbrev pub NoSpan : Type 0
 NoSpan =
-    (s : Settings) (t0 : Float) (r0 v0 : Triple) → withinLimits s ≡ true → isFinite t0 ≡ true → isNan (s .h) ≡ false
+    (s : Settings) (t0 : Float) (r0 v0 : Triple) → areWithinLimits s ≡ true → isFinite t0 ≡ true → isNan (s .h) ≡ false
     → begin s t0 t0 r0 v0 .said ≡ refused 1
 
 abbrev pub NoStep : Type 0
-NoStep = (s : Settings) (t0 tf : Float) (r0 v0 : Triple) → withinLimits s ≡ true → eq (s .h) nought ≡ true → begin s t0 tf r0 v0 .said ≡ refused 1
+NoStep = (s : Settings) (t0 tf : Float) (r0 v0 : Triple) → areWithinLimits s ≡ true → eq (s .h) nought ≡ true → begin s t0 tf r0 v0 .said ≡ refused 1

@@ -12,8 +12,8 @@ use lib.Ieee.{Float, nan, le}
 use borrow.Author.Tests.{lt-ltb, le-ltb, ltb-true, ltb-false}
 use Rattle.dense.specs.declared.interval.Ends.{Ends}
 use Rattle.dense.specs.Table.{timeOf}
-use Rattle.dense.specs.Intervals.{reached, firstPast, short, walkOn, walkedTo}
-use Rattle.dense.specs.Interpolation.{width, outside, anyOutside, valueAt, put, putEach}
+use Rattle.dense.specs.Intervals.{reached, firstPast, isShort, walkOn, walkedTo}
+use Rattle.dense.specs.Interpolation.{width, isOutside, anyOutside, valueAt, written, writtenAll}
 
 one-left : (m n : ℕ) → n < m → m - n ≡ suc (m - (n + 1))
 one-left m n h = omega arith
@@ -36,11 +36,11 @@ module _ (f : Bool) (l : List Float) (t : Float) (m n : ℕ) where
   past-end h = rw (none-left m n h)
 
   -- ---- the batch's walk
-  pub walk-on : n < m → short f (timeOf l (n + 1)) t ≡ true → walkOn f l t (m - n) n ≡ walkOn f l t (m - (n + 1)) (n + 1)
+  pub walk-on : n < m → isShort f (timeOf l (n + 1)) t ≡ true → walkOn f l t (m - n) n ≡ walkOn f l t (m - (n + 1)) (n + 1)
   unfolding walkOn
   walk-on h e = rw (one-left m n h, e)
 
-  pub walk-here : n < m → short f (timeOf l (n + 1)) t ≡ false → walkOn f l t (m - n) n ≡ n
+  pub walk-here : n < m → isShort f (timeOf l (n + 1)) t ≡ false → walkOn f l t (m - n) n ≡ n
   unfolding walkOn
   walk-here h e = rw (one-left m n h, e)
 
@@ -71,17 +71,17 @@ module _ (times : List Float) (j : ℕ) (h : j < length times) where
   next : drop j times ≡ getD times j nan ∷ drop (j + 1) times
   next = rw add-one (drop-cons times j nan h)
 
-  pub outside-on : (e : Ends) → outside e (getD times j nan) ≡ false → anyOutside e (drop j times) ≡ anyOutside e (drop (j + 1) times)
+  pub outside-on : (e : Ends) → isOutside e (getD times j nan) ≡ false → anyOutside e (drop j times) ≡ anyOutside e (drop (j + 1) times)
   unfolding anyOutside
   outside-on e o = rw (next, o)
 
-  pub outside-here : (e : Ends) → outside e (getD times j nan) ≡ true → anyOutside e (drop j times) ≡ true
+  pub outside-here : (e : Ends) → isOutside e (getD times j nan) ≡ true → anyOutside e (drop j times) ≡ true
   unfolding anyOutside
   outside-here e o = rw (next, o)
 
   pub put-on : (l : List Float) (k : ℕ) (out : List Float) →
-      putEach l j k (drop j times) out ≡ putEach l (j + 1) (walkedTo l (getD times j nan) k) (drop (j + 1) times) (put j (valueAt l (walkedTo l (getD times j nan) k) (getD times j nan)) out)
-  unfolding putEach
+      writtenAll l j k (drop j times) out ≡ writtenAll l (j + 1) (walkedTo l (getD times j nan) k) (drop (j + 1) times) (written j (valueAt l (walkedTo l (getD times j nan) k) (getD times j nan)) out)
+  unfolding writtenAll
   put-on l k out = rw next
 
 module _ (times : List Float) (j : ℕ) (h : length times ≤ j) where
@@ -89,8 +89,8 @@ module _ (times : List Float) (j : ℕ) (h : length times ≤ j) where
   unfolding anyOutside
   outside-end e = rw (drop-of-length-le times h)
 
-  pub put-end : (l : List Float) (k : ℕ) (out : List Float) → putEach l j k (drop j times) out ≡ out
-  unfolding putEach
+  pub put-end : (l : List Float) (k : ℕ) (out : List Float) → writtenAll l j k (drop j times) out ≡ out
+  unfolding writtenAll
   put-end l k out = rw (drop-of-length-le times h)
 
 -- ---- room: times that fit, said by the quotient and by the product

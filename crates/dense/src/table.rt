@@ -3,11 +3,11 @@ use triple::Sample;
 use triple::Triple;
 ghost use mathlib.Core.Path.{_≡_};
 ghost use Prim.Native.Nat.{_+_, _-_};
-ghost use Rattle.dense.specs.Table.{count, timeOf, noSample, sampleOf};
+ghost use Rattle.dense.specs.Table.{countOf, timeOf, noSample, sampleOf};
 
 // How many whole samples there are.
 pub fn count_of(samples: &[f64]) -> usize
-    ensures { λ n. ⌜ n ≡ count (now (samples .entry)) ⌝ }
+    ensures { λ n. ⌜ n ≡ countOf (now (samples .entry)) ⌝ }
 {
     samples.len() / 10
 }

@@ -19,14 +19,14 @@ use Rattle.run.specs.declared.Body.{Body}
 use Rattle.run.specs.declared.Run.{Run}
 use Rattle.run.specs.declared.waiting.Waiting.{Waiting}
 use Rattle.run.specs.declared.waiting.Waiting.the-variants.{Step}
-use Rattle.run.specs.Waiting.{waitingOf}
-use Rattle.run.specs.Counting.{soundOf, Ready}
-use Rattle.run.specs.Formulas.{goesOn, isShort, rests, trackOn}
+use Rattle.run.specs.Waiting.{waitsAt}
+use Rattle.run.specs.Counting.{isSound, Ready}
+use Rattle.run.specs.Formulas.{isDue, isTail, isAtRest, trackOn}
 use Rattle.run.specs.Moves.{tried, arrived, committed, predicted}
 use Rattle.run.proofs.Counts.{both, ready}
 use Rattle.gauss_jackson.specs.declared.Answered.{Answered}
 use Rattle.gauss_jackson.specs.declared.steps.Judged.{Judged}
-use Rattle.gauss_jackson.specs.Answers.{Turn, quiet, asking, sampling, onward, stepEnded, stepTaken, judged, goesFurther, counted, answeredAt, answered}
+use Rattle.gauss_jackson.specs.Answers.{Turn, quiet, asking, sampling, onward, stepEnded, stepTaken, judged, goesFurther, nextCount, answeredAt, answered}
 
 -- by the two tests of a step: whether a pass is left, and whether it comes to rest
 module _ (n : ℕ) (c : Count) (b : Body) (x : Triple) (out : List Float) where
@@ -34,22 +34,22 @@ module _ (n : ℕ) (c : Count) (b : Body) (x : Triple) (out : List Float) where
   after = correctedState (b .plan .h) (b .track .sums) (b .trial .fixed) x
 
   abbrev Left : Bool → Judged
-  Left p = cond p (record { made = rests (b .plan .settings .«corrector_tol») (b .trial .state) after; state = after }) (record { made = true; state = b .trial .state })
+  Left p = cond p (record { made = isAtRest (b .plan .settings .«corrector_tol») (b .trial .state) after; state = after }) (record { made = true; state = b .trial .state })
 
   abbrev Taken : Bool → Bool → Turn
   Taken p q = cond p (cond q (stepEnded c (committed b after x) out) (quiet (asking (Step (n + 1)) c (tried b after)) out)) (stepEnded c (committed b (b .trial .state) x) out)
 
   open-by : (p : Bool) → not (Left p .made) ≡ true
-      → (p ≡ true) × (Taken p (rests (b .plan .settings .«corrector_tol») (b .trial .state) after) ≡ quiet (asking (Step (n + 1)) c (tried b (Left p .state))) out)
-  open-by true e = (refl, go (rests (b .plan .settings .«corrector_tol») (b .trial .state) after) (not-true _ e))
+      → (p ≡ true) × (Taken p (isAtRest (b .plan .settings .«corrector_tol») (b .trial .state) after) ≡ quiet (asking (Step (n + 1)) c (tried b (Left p .state))) out)
+  open-by true e = (refl, go (isAtRest (b .plan .settings .«corrector_tol») (b .trial .state) after) (not-true _ e))
     where
       go : (q : Bool) → q ≡ false → Taken true q ≡ quiet (asking (Step (n + 1)) c (tried b after)) out
       go q f = rw f
   open-by false e = (e, ap (λ (d : Bool). cond d (quiet (asking (Step (n + 1)) c (tried b (b .trial .state))) out) (stepEnded c (committed b (b .trial .state) x) out)) e)
 
   made-by : (p : Bool) → not (Left p .made) ≡ false
-      → Taken p (rests (b .plan .settings .«corrector_tol») (b .trial .state) after) ≡ stepEnded c (committed b (Left p .state) x) out
-  made-by true e = go (rests (b .plan .settings .«corrector_tol») (b .trial .state) after) (not-false _ e)
+      → Taken p (isAtRest (b .plan .settings .«corrector_tol») (b .trial .state) after) ≡ stepEnded c (committed b (Left p .state) x) out
+  made-by true e = go (isAtRest (b .plan .settings .«corrector_tol») (b .trial .state) after) (not-false _ e)
     where
       go : (q : Bool) → q ≡ true → Taken true q ≡ stepEnded c (committed b after x) out
       go q f = rw f
@@ -93,14 +93,14 @@ further-on c b out e =
     let h = both _ _ e in
     let i = both _ _ (h .0) in
     let j = both _ _ (i .0) in
-    go (b .plan .settings .samples) (goesOn (b .plan) (b .track .t)) (ltb (b .track .steps) (b .plan .settings .«max_steps»)) (isShort (b .plan) (b .track .t)) (not-true _ (j .0)) (j .1) (i .1) (not-true _ (h .1)) _ _ _ _ _
+    go (b .plan .settings .samples) (isDue (b .plan) (b .track .t)) (ltb (b .track .steps) (b .plan .settings .«max_steps»)) (isTail (b .plan) (b .track .t)) (not-true _ (j .0)) (j .1) (i .1) (not-true _ (h .1)) _ _ _ _ _
   where
     go : (p q r s : Bool) → p ≡ false → q ≡ true → r ≡ true → s ≡ false → (u : Turn) (t1 t2 t3 t4 : Answered)
         → cond p u (quiet (cond q (cond r (cond s t1 t2) t3) t4) out) ≡ quiet t2 out
     go p q r s e f g h u t1 t2 t3 t4 = rw (e, f, g, h)
 
 -- a sound run that waits at a step: nothing wraps
-module _ (run : Run) (w : Waiting) (s : soundOf run ≡ true) (at : w ≡ waitingOf (run .mark)) (n : ℕ) (step : w ≡ Step n) where
+module _ (run : Run) (w : Waiting) (s : isSound run ≡ true) (at : w ≡ waitsAt (run .mark)) (n : ℕ) (step : w ≡ Step n) where
   pub ready-step : (run .body .plan .settings .«max_corrector_iters» ≤ 100) × (run .body .track .steps ≤ 1_000_000_000)
   ready-step = subst (λ (v : Waiting). Ready v (run .body)) (sym at ∙ step) (ready run s)
 
@@ -108,7 +108,7 @@ module _ (run : Run) (w : Waiting) (s : soundOf run ≡ true) (at : w ≡ waitin
   few-passes x j is f = omega (arith, still-open n (run .mark .count) (run .body) x [] (sym (ap (λ (d : Judged). not (d .made)) is) ∙ f) .0, ready-step .0)
 
 -- the right answer to a sound run, which waits at w; k counts the answers up to this one
-module _ (run : Run) (m : ℕ) (x : Triple) (out : List Float) (w : Waiting) (k : Count) (s : soundOf run ≡ true) (e : eqb (run .mark .count .number) m ≡ true) (at : w ≡ waitingOf (run .mark)) (next : k ≡ counted (run .mark .count)) where
+module _ (run : Run) (m : ℕ) (x : Triple) (out : List Float) (w : Waiting) (k : Count) (s : isSound run ≡ true) (e : eqb (run .mark .count .number) m ≡ true) (at : w ≡ waitsAt (run .mark)) (next : k ≡ nextCount (run .mark .count)) where
   goes-to : answered run m x out ≡ answeredAt w k (run .body) x out
   unfolding answered
   goes-to = rw (s, e, at, next)

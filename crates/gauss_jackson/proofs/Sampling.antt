@@ -11,7 +11,7 @@ use Rattle.refusals.specs.declared.Refusal.the-variants.{SampleRoom}
 use Rattle.run.specs.declared.Body.{Body}
 use Rattle.gauss_jackson.specs.declared.Answered.{Answered}
 use Rattle.gauss_jackson.specs.declared.Outcome.the-variants.{Refused}
-use Rattle.run.specs.Samples.{fits, putAll}
+use Rattle.run.specs.Samples.{hasRoom, putAll}
 use Rattle.gauss_jackson.specs.Answers.{Turn, quiet, ending, sampling}
 
 module _ {A : Type 0} where
@@ -30,21 +30,21 @@ module _ (n : ℕ) (ss : List Sample) (b : Body) (out : List Float) (x : Answere
   unfolding sampling
   off-is e = chosen _ _ (not-true (b .plan .settings .samples) e)
 
-  full-is : not (b .plan .settings .samples) ≡ false → fits n (length ss) out ≡ false → sampling n ss b out x ≡ quiet (ending (Refused SampleRoom)) out
+  full-is : not (b .plan .settings .samples) ≡ false → hasRoom n (length ss) out ≡ false → sampling n ss b out x ≡ quiet (ending (Refused SampleRoom)) out
   unfolding sampling
   full-is e f = chosen _ _ (not-false (b .plan .settings .samples) e) ∙ chosen _ _ f
 
-  on-is : not (b .plan .settings .samples) ≡ false → fits n (length ss) out ≡ true → sampling n ss b out x ≡ record { got = x; out = putAll n ss out }
+  on-is : not (b .plan .settings .samples) ≡ false → hasRoom n (length ss) out ≡ true → sampling n ss b out x ≡ record { got = x; out = putAll n ss out }
   unfolding sampling
   on-is e f = chosen _ _ (not-false (b .plan .settings .samples) e) ∙ chosen _ _ f
 
   pub unwanted : (r : Answered) → not (b .plan .settings .samples) ≡ true → r ≡ x → (r ≡ sampling n ss b out x .got) × (out ≡ sampling n ss b out x .out)
   unwanted r e f = (f ∙ sym (ap (λ (t : Turn). t .got) (off-is e)), sym (ap (λ (t : Turn). t .out) (off-is e)))
 
-  pub no-room : (r : Answered) → not (b .plan .settings .samples) ≡ false → fits n (length ss) out ≡ false → r ≡ ending (Refused SampleRoom)
+  pub no-room : (r : Answered) → not (b .plan .settings .samples) ≡ false → hasRoom n (length ss) out ≡ false → r ≡ ending (Refused SampleRoom)
       → (r ≡ sampling n ss b out x .got) × (out ≡ sampling n ss b out x .out)
   no-room r e f g = (g ∙ sym (ap (λ (t : Turn). t .got) (full-is e f)), sym (ap (λ (t : Turn). t .out) (full-is e f)))
 
-  pub stored : (r : Answered) (o : List Float) → not (b .plan .settings .samples) ≡ false → fits n (length ss) out ≡ true → r ≡ x → o ≡ putAll n ss out
+  pub stored : (r : Answered) (o : List Float) → not (b .plan .settings .samples) ≡ false → hasRoom n (length ss) out ≡ true → r ≡ x → o ≡ putAll n ss out
       → (r ≡ sampling n ss b out x .got) × (o ≡ sampling n ss b out x .out)
   stored r o e f g h = (g ∙ sym (ap (λ (t : Turn). t .got) (on-is e f)), h ∙ sym (ap (λ (t : Turn). t .out) (on-is e f)))

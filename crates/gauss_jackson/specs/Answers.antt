@@ -12,7 +12,7 @@ use Rattle.triple.specs.Arithmetic.{nought, zeros}
 use Rattle.refusals.specs.declared.Refusal.{Refusal}
 use Rattle.refusals.specs.declared.Refusal.the-variants.{StepNotFinite, MaxStepsExceeded, Setting, SampleRoom, NoQuestion, NotThatQuestion}
 use Rattle.sums.specs.Sums.{correctedState}
-use Rattle.startup.specs.Passes.{settled}
+use Rattle.startup.specs.Passes.{isSettled}
 use Rattle.sums.specs.declared.Sums.{Sums}
 use Rattle.run.specs.declared.Settings.{Settings}
 use Rattle.run.specs.declared.Plan.{Plan}
@@ -30,17 +30,17 @@ use Rattle.run.specs.declared.waiting.Stage.{Stage}
 use Rattle.run.specs.declared.waiting.Stage.the-variants.{First, Second, Third, Fourth}
 use Rattle.run.specs.declared.waiting.Waiting.{Waiting}
 use Rattle.run.specs.declared.waiting.Waiting.the-variants.{Epoch, Forward, Backward, Survey, Pass, Step, Tail, TailSample, Ended, Unknown}
-use Rattle.run.specs.Plan.{withinLimits, planOf, tooNear}
-use Rattle.run.specs.Formulas.{goesOn, isShort, rests}
-use Rattle.run.specs.Waiting.{markOf, waitingOf, nextPoint}
-use Rattle.run.specs.Questions.{question}
-use Rattle.run.specs.Moves.{freshBody, surveyed, kept, movedOn, movedBack, passBegun, renewed, passMade, launched, predicted, tried, committed, tailEnd}
-use Rattle.run.specs.Samples.{fits, putAll, startSamples, stepSample, finalSample}
-use Rattle.run.specs.Counting.{soundOf}
+use Rattle.run.specs.Plan.{areWithinLimits, planOf, isTooNear}
+use Rattle.run.specs.Formulas.{isDue, isTail, isAtRest}
+use Rattle.run.specs.Waiting.{markAt, waitsAt, nextPoint}
+use Rattle.run.specs.Questions.{questionAt}
+use Rattle.run.specs.Moves.{freshBody, surveyed, kept, movedOn, movedBack, passBegun, renewed, passMade, launched, predicted, tried, committed, endOfTail}
+use Rattle.run.specs.Samples.{hasRoom, putAll, startSamples, stepSample, lastSample}
+use Rattle.run.specs.Counting.{isSound}
 
 -- "Numbers start at 0 and rise by one for each accepted answer; after 65,535 the next question is numbered 0."
-unfoldable pub counted : Count → Count
-counted c = record { number = (c .number + 1) % 65536; evals = c .evals + 1 }
+unfoldable pub nextCount : Count → Count
+nextCount c = record { number = (c .number + 1) % 65536; evals = c .evals + 1 }
 
 -- ---- the run is ended: every ended run is the same, and holds nothing
 unfoldable pub noPlan : Plan
@@ -62,30 +62,30 @@ noPlan =
     }
 
 unfoldable pub endedRun : Run
-endedRun = record { mark = markOf Ended (record { number = 0; evals = 0 }); body = freshBody noPlan zeros zeros }
+endedRun = record { mark = markAt Ended (record { number = 0; evals = 0 }); body = freshBody noPlan zeros zeros }
 
 unfoldable pub ending : Outcome → Answered
 ending o = record { run = endedRun; outcome = o }
 
 -- ---- a question is open
 unfoldable pub questionOf : Waiting → Count → Body → Outcome
-questionOf w c b = let q = question w b in Ask (record { number = c .number; t = q .t; r = q .r; v = q .v })
+questionOf w c b = let q = questionAt w b in Ask (record { number = c .number; t = q .t; r = q .r; v = q .v })
 
 unfoldable pub asking : Waiting → Count → Body → Answered
-asking w c b = record { run = record { mark = markOf w c; body = b }; outcome = questionOf w c b }
+asking w c b = record { run = record { mark = markAt w c; body = b }; outcome = questionOf w c b }
 
 -- ---- the finished state
-unfoldable pub solution : Float → State → Count → ℕ → Body → Outcome
-solution t x c n b = Done (record { t = t; r = x .r; v = x .v; evals = c .evals; steps = n; «startup_iters» = b .«startup_iters» })
+unfoldable pub solutionOf : Float → State → Count → ℕ → Body → Outcome
+solutionOf t x c n b = Done (record { t = t; r = x .r; v = x .v; evals = c .evals; steps = n; «startup_iters» = b .«startup_iters» })
 
 -- the head of the loop: "While (tf - t)·dir > 0: test max_steps; [..] If abs(rem) - abs(h) < -1e-12·abs(h): RK4 over rem [..] Else: predict"
 unfoldable pub onward : Count → Body → Answered
 onward c b =
-    cond (goesOn (b .plan) (b .track .t))
+    cond (isDue (b .plan) (b .track .t))
     (cond (ltb (b .track .steps) (b .plan .settings .«max_steps»))
-    (cond (isShort (b .plan) (b .track .t)) (asking (Tail First) c b) (asking (Step 0) c (predicted b)))
+    (cond (isTail (b .plan) (b .track .t)) (asking (Tail First) c b) (asking (Step 0) c (predicted b)))
     (ending (Refused MaxStepsExceeded)))
-    (ending (solution (b .track .t) (b .track .state) c (b .track .steps) b))
+    (ending (solutionOf (b .track .t) (b .track .state) c (b .track .steps) b))
 
 -- ---- the answer, and the buffer at exit
 pub record Turn : Type 0 where
@@ -99,7 +99,7 @@ quiet x out = record { got = x; out = out }
 unfoldable pub sampling : ℕ → List Sample → Body → List Float → Answered → Turn
 sampling n ss b out x =
     cond (b .plan .settings .samples)
-    (cond (fits n (length ss) out) (record { got = x; out = putAll n ss out }) (quiet (ending (Refused SampleRoom)) out))
+    (cond (hasRoom n (length ss) out) (record { got = x; out = putAll n ss out }) (quiet (ending (Refused SampleRoom)) out))
     (quiet x out)
 
 -- the startup is done
@@ -119,7 +119,7 @@ passesOn c b out =
 
 unfoldable pub passEnded : Count → Body → List Float → Turn
 passEnded c b out =
-    cond (settled (b .plan .settings .«startup_tol») (b .widest))
+    cond (isSettled (b .plan .settings .«startup_tol») (b .widest))
     (startupEnded c (passMade b) out)
     (passesOn c (passMade b) out)
 
@@ -148,7 +148,7 @@ unfoldable pub stepTaken : ℕ → Count → Body → Triple → List Float → 
 stepTaken n c b x out =
     let y = correctedState (b .plan .h) (b .track .sums) (b .trial .fixed) x in
     cond (ltb n (b .plan .settings .«max_corrector_iters»))
-    (cond (rests (b .plan .settings .«corrector_tol») (b .trial .state) y)
+    (cond (isAtRest (b .plan .settings .«corrector_tol») (b .trial .state) y)
     (stepEnded c (committed b y x) out)
     (quiet (asking (Step (n + 1)) c (tried b y)) out))
     (stepEnded c (committed b (b .trial .state) x) out)
@@ -159,12 +159,12 @@ unfoldable pub judged : ℕ → Plan → Sums → Trial → Triple → Judged
 judged n p s t x =
     let y = correctedState (p .h) s (t .fixed) x in
     cond (ltb n (p .settings .«max_corrector_iters»))
-    (record { made = rests (p .settings .«corrector_tol») (t .state) y; state = y })
+    (record { made = isAtRest (p .settings .«corrector_tol») (t .state) y; state = y })
     (record { made = true; state = t .state })
 
 -- whether a further step follows at t after n steps, and no sample is due
 unfoldable pub goesFurther : Plan → Float → ℕ → Bool
-goesFurther p t n = not (p .settings .samples) && goesOn p t && ltb n (p .settings .«max_steps») && not (isShort p t)
+goesFurther p t n = not (p .settings .samples) && isDue p t && ltb n (p .settings .«max_steps») && not (isTail p t)
 
 -- "with samples one more question at tf, end at tf with one more step"
 unfoldable pub tailTaken : Stage → Count → Body → Triple → Answered
@@ -173,13 +173,13 @@ tailTaken Second c b x = asking (Tail Third) c (kept Second b x)
 tailTaken Third c b x = asking (Tail Fourth) c (kept Third b x)
 tailTaken Fourth c b x =
     cond (b .plan .settings .samples)
-    (asking TailSample c (tried b (tailEnd b x)))
-    (ending (solution (b .plan .tf) (tailEnd b x) c (b .track .steps + 1) b))
+    (asking TailSample c (tried b (endOfTail b x)))
+    (ending (solutionOf (b .plan .tf) (endOfTail b x) c (b .track .steps + 1) b))
 
 unfoldable pub lastTaken : Count → Body → Triple → List Float → Turn
 lastTaken c b x out =
-    sampling (b .track .steps + 1) (finalSample (b .plan) (b .trial .state) x ∷ []) b out
-    (ending (solution (b .plan .tf) (b .trial .state) c (b .track .steps + 1) b))
+    sampling (b .track .steps + 1) (lastSample (b .plan) (b .trial .state) x ∷ []) b out
+    (ending (solutionOf (b .plan .tf) (b .trial .state) c (b .track .steps + 1) b))
 
 unfoldable pub answeredAt : Waiting → Count → Body → Triple → List Float → Turn
 answeredAt Epoch c b x out = quiet (asking (Forward 4 First) c (surveyed 4 b x)) out
@@ -200,21 +200,21 @@ refusing run e = record { run = run; outcome = Refused e }
 -- "At an answer 7, 8, then 6 wherever samples are due (end of startup, commit, tail), before 2."
 unfoldable pub answered : Run → ℕ → Triple → List Float → Turn
 answered run n x out =
-    cond (soundOf run)
+    cond (isSound run)
     (cond (eqb (run .mark .count .number) n)
-    (answeredAt (waitingOf (run .mark)) (counted (run .mark .count)) (run .body) x out)
+    (answeredAt (waitsAt (run .mark)) (nextCount (run .mark .count)) (run .body) x out)
     (quiet (refusing run NotThatQuestion) out))
     (quiet (refusing run NoQuestion) out)
 
 -- "Order: at start 5, 1."
 unfoldable pub started : Settings → Float → Float → Triple → Triple → Answered
 started s t0 tf r0 v0 =
-    cond (withinLimits s)
-    (cond (tooNear (planOf s t0 tf))
+    cond (areWithinLimits s)
+    (cond (isTooNear (planOf s t0 tf))
     (ending (Refused StepNotFinite))
     (asking Epoch (record { number = 0; evals = 0 }) (freshBody (planOf s t0 tf) r0 v0)))
     (ending (Refused Setting))
 
 -- the open question, told again
 unfoldable pub openQuestion : Run → Outcome
-openQuestion run = cond (soundOf run) (questionOf (waitingOf (run .mark)) (run .mark .count) (run .body)) (Refused NoQuestion)
+openQuestion run = cond (isSound run) (questionOf (waitsAt (run .mark)) (run .mark .count) (run .body)) (Refused NoQuestion)

@@ -2,7 +2,7 @@
 ghost use mathlib.Core.Path.{_≡_};
 ghost use Prim.Native.Nat.{_+_, _*_, _≤_};
 ghost use lib.ListN.{length};
-ghost use Rattle.run.specs.Samples.{fits, put, putAll, pointSample, startSamples, stepSample, finalSample};
+ghost use Rattle.run.specs.Samples.{hasRoom, put, putAll, gridSample, startSamples, stepSample, lastSample};
 use run::Body;
 use triple::Sample;
 use triple::Triple;
@@ -11,7 +11,7 @@ use triple::nine;
 // Whether samples n to n + m - 1 all have their place.
 pub fn has_room(n: u64, m: u64, out: &[f64]) -> bool
     requires { ⌜ n + m ≤ 100000000000 ⌝ }
-    ensures { λ b. ⌜ b ≡ fits n m (now (out .entry)) ⌝ }
+    ensures { λ b. ⌜ b ≡ hasRoom n m (now (out .entry)) ⌝ }
 {
     10 * (n + m) <= out.len() as u64
 }
@@ -36,7 +36,7 @@ pub fn store(n: u64, s: Sample, out: &mut [f64])
 
 // Point i of the startup.
 fn grid_sample(b: Body, i: u8) -> Sample
-    ensures { λ s. ⌜ s ≡ pointSample (b .plan) (b .places) (b .a) i ⌝ }
+    ensures { λ s. ⌜ s ≡ gridSample (b .plan) (b .places) (b .a) i ⌝ }
 {
     let a = b.a;
     let p = startup::point_at(b.plan.t0, b.plan.h, b.places, i);
@@ -79,7 +79,7 @@ pub fn step_sample(b: Body) -> Sample
 
 // The end of the tail, with its acceleration.
 pub fn last_sample(b: Body, a: Triple) -> Sample
-    ensures { λ s. ⌜ s ≡ finalSample (b .plan) (b .trial .state) a ⌝ }
+    ensures { λ s. ⌜ s ≡ lastSample (b .plan) (b .trial .state) a ⌝ }
 {
     let r = b.trial.state.r;
     let v = b.trial.state.v;

@@ -3,7 +3,7 @@ ghost use mathlib.Core.Path.{_≡_};
 ghost use Prim.Native.Nat.{_<_, _≤_};
 ghost use Rattle.run.specs.Moves.{freshBody};
 ghost use Rattle.run.specs.Counting.{Ready};
-ghost use Rattle.gauss_jackson.specs.Answers.{counted, noPlan, endedRun, ending, questionOf, asking, solution, onward, startupEnded, stepEnded, passesOn, passEnded, forwardTaken, backwardTaken, surveyTaken, passTaken, stepTaken, tailTaken, lastTaken, answeredAt};
+ghost use Rattle.gauss_jackson.specs.Answers.{nextCount, noPlan, endedRun, ending, questionOf, asking, solutionOf, onward, startupEnded, stepEnded, passesOn, passEnded, forwardTaken, backwardTaken, surveyTaken, passTaken, stepTaken, tailTaken, lastTaken, answeredAt};
 use crate::Answered;
 use crate::Outcome;
 use crate::Question;
@@ -30,7 +30,7 @@ use triple::Triple;
 // The counts of the next question; its number wraps to 0 after 65,535.
 pub fn next_count(c: Count) -> Count
     requires { ⌜ c .evals < 1000000000000 ⌝ }
-    ensures { λ n. ⌜ n ≡ counted c ⌝ }
+    ensures { λ n. ⌜ n ≡ nextCount c ⌝ }
 {
     Count {
         number: std::num::wrapping_add_u16(c.number, 1),
@@ -115,7 +115,7 @@ pub fn begin(plan: Plan, r0: Triple, v0: Triple) -> Answered
 }
 
 fn solution_of(t: f64, x: State, count: Count, steps: u64, b: Body) -> Outcome
-    ensures { λ o. ⌜ o ≡ solution t x count steps b ⌝ }
+    ensures { λ o. ⌜ o ≡ solutionOf t x count steps b ⌝ }
 {
     let r = x.r;
     let v = x.v;

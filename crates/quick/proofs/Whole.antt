@@ -10,7 +10,7 @@ use lib.Ieee.{Float, binary64, add}
 use borrow.Author.Tests.{leb-true, ltb-true, eqb-true, not-true, le-leb, lt-leb}
 use Rattle.triple.specs.declared.Triple.{Triple}
 use Rattle.triple.specs.declared.State.{State}
-use Rattle.triple.specs.Nine.{slide}
+use Rattle.triple.specs.Nine.{slid}
 use Rattle.sums.specs.Sums.{correctedState}
 use Rattle.run.specs.declared.Settings.{Settings}
 use Rattle.run.specs.declared.Plan.{Plan}
@@ -22,15 +22,15 @@ use Rattle.run.specs.declared.Body.{Body}
 use Rattle.run.specs.declared.Run.{Run}
 use Rattle.run.specs.declared.waiting.Waiting.{Waiting}
 use Rattle.run.specs.declared.waiting.Waiting.the-variants.{Step}
-use Rattle.run.specs.Plan.{withinLimits}
-use Rattle.run.specs.Formulas.{goesOn, isShort, rests, trackOn}
-use Rattle.run.specs.Waiting.{markOf, waitingOf, waitingAt}
+use Rattle.run.specs.Plan.{areWithinLimits}
+use Rattle.run.specs.Formulas.{isDue, isTail, isAtRest, trackOn}
+use Rattle.run.specs.Waiting.{markAt, waitsAt, waitingAt}
 use Rattle.run.specs.Moves.{tried, committed, arrived, predicted}
-use Rattle.run.specs.Counting.{startedUp, stepCounts, countsOf, soundOf, Small}
-use Rattle.run.specs.Samples.{fits, putAll, stepSample}
+use Rattle.run.specs.Counting.{isStartedUp, stepCounts, hasCounts, isSound, Small}
+use Rattle.run.specs.Samples.{hasRoom, putAll, stepSample}
 use Rattle.run.proofs.Counts.{both, few, below, to-small}
 use Rattle.gauss_jackson.specs.declared.Answered.{Answered}
-use Rattle.gauss_jackson.specs.Answers.{Turn, quiet, asking, sampling, onward, stepEnded, stepTaken, counted, answeredAt, answered}
+use Rattle.gauss_jackson.specs.Answers.{Turn, quiet, asking, sampling, onward, stepEnded, stepTaken, nextCount, answeredAt, answered}
 use Rattle.quick.specs.declared.Look.{Look}
 use Rattle.quick.specs.Quick.{shell, openStep, endOf, isMade, hasPlace, follows, looked, trackBy, keptSample}
 
@@ -42,19 +42,19 @@ few-by s i n m h = few (shell s i n) m h
 
 -- ---- a sample's place, by the quotient that the code tests
 module _ (n : ℕ) (l : List Float) where
-  pub fits-here : n < length l / 10 → fits n 1 l ≡ true
-  unfolding fits
+  pub fits-here : n < length l / 10 → hasRoom n 1 l ≡ true
+  unfolding hasRoom
   fits-here h = le-leb (10 * (n + 1)) (length l) (omega (arith, h))
 
-  pub no-fit : length l / 10 ≤ n → fits n 1 l ≡ false
-  unfolding fits
+  pub no-fit : length l / 10 ≤ n → hasRoom n 1 l ≡ false
+  unfolding hasRoom
   no-fit h = lt-leb (10 * (n + 1)) (length l) (omega (arith, h))
 
 -- ---- an open step, as facts
 pub record Opened (m : Mark) (s : Settings) (i n : ℕ) : Type 0 where
   pub at : m .at ≡ 6
   pub stage : leb (m .stage) 3 ≡ true
-  pub limited : withinLimits s ≡ true
+  pub limited : areWithinLimits s ≡ true
   pub numbered : eqb (m .count .number) (m .count .evals % 65536) ≡ true
   pub passes : leb (m .index) (s .«max_corrector_iters») ≡ true
   pub counts : stepCounts (m .index) (m .count .evals) (shell s i n) ≡ true
@@ -85,22 +85,22 @@ module _ (m : Mark) (s : Settings) (i n : ℕ) (e : openStep m s i n ≡ true) w
       (omega (arith, f, u, g, a, c, p), omega (arith, l, d), omega (arith, p, c))
 
 same-counts : (k e : ℕ) (b : Body) → stepCounts k e b ≡ stepCounts k e (shell (b .plan .settings) (b .«startup_iters») (b .track .steps))
-unfolding stepCounts startedUp
+unfolding stepCounts isStartedUp
 same-counts k e b = refl
 
-waits : (m : Mark) → m .at ≡ 6 → leb (m .stage) 3 ≡ true → waitingOf m ≡ Step (m .index)
-unfolding waitingOf waitingAt
+waits : (m : Mark) → m .at ≡ 6 → leb (m .stage) 3 ≡ true → waitsAt m ≡ Step (m .index)
+unfolding waitsAt waitingAt
 waits m e f = rw (f, e)
 
 module _ (run : Run) (e : openStep (run .mark) (run .body .plan .settings) (run .body .«startup_iters») (run .body .track .steps) ≡ true) where
   here : Opened (run .mark) (run .body .plan .settings) (run .body .«startup_iters») (run .body .track .steps)
   here = opened _ _ _ _ e
 
-  pub at-step : waitingOf (run .mark) ≡ Step (run .mark .index)
+  pub at-step : waitsAt (run .mark) ≡ Step (run .mark .index)
   at-step = waits _ (here .at) (here .stage)
 
-  pub sound : soundOf run ≡ true
-  unfolding soundOf countsOf
+  pub sound : isSound run ≡ true
+  unfolding isSound hasCounts
   sound = rw (here .limited, here .numbered, at-step, here .passes, same-counts (run .mark .index) (run .mark .count .evals) (run .body)) (here .counts)
 
 -- ---- a step's turn
@@ -109,7 +109,7 @@ module _ (n : ℕ) (c : Count) (b : Body) (x : Triple) (out : List Float) where
   after = correctedState (b .plan .h) (b .track .sums) (b .trial .fixed) x
 
   abbrev rest : Bool
-  rest = rests (b .plan .settings .«corrector_tol») (b .trial .state) after
+  rest = isAtRest (b .plan .settings .«corrector_tol») (b .trial .state) after
 
   abbrev Taken : Bool → Bool → Turn
   Taken p q = cond p (cond q (stepEnded c (committed b after x) out) (quiet (asking (Step (n + 1)) c (tried b after)) out)) (stepEnded c (committed b (b .trial .state) x) out)
@@ -139,12 +139,12 @@ module _ (n : ℕ) (c : Count) (b : Body) (x : Triple) (out : List Float) where
 -- a further step follows, and its sample has its place
 onto : (c : Count) (b : Body) (x : Triple) (k : Track) (out : List Float) → follows (b .plan) (k .t) (k .steps) (length out) ≡ true
     → stepEnded c (arrived b k x) out ≡ record { got = asking (Step 0) c (predicted (arrived b k x)); out = keptSample (b .plan) k x out }
-unfolding follows hasPlace stepEnded sampling onward arrived keptSample fits putAll stepSample slide
+unfolding follows hasPlace stepEnded sampling onward arrived keptSample hasRoom putAll stepSample slid
 onto c b x k out e =
     let h = both _ _ e in
     let i = both _ _ (h .0) in
     let j = both _ _ (i .0) in
-    go (b .plan .settings .samples) (leb (10 * (k .steps + 1)) (length out)) (goesOn (b .plan) (k .t)) (ltb (k .steps) (b .plan .settings .«max_steps»)) (isShort (b .plan) (k .t)) (j .0) (j .1) (i .1) (not-true _ (h .1)) _ _ _ _ _ _ _
+    go (b .plan .settings .samples) (leb (10 * (k .steps + 1)) (length out)) (isDue (b .plan) (k .t)) (ltb (k .steps) (b .plan .settings .«max_steps»)) (isTail (b .plan) (k .t)) (j .0) (j .1) (i .1) (not-true _ (h .1)) _ _ _ _ _ _ _
   where
     go : (s p q r z : Bool) → cond s p true ≡ true → q ≡ true → r ≡ true → z ≡ false → (l m : List Float) (u : Turn) (t1 t2 t3 t4 : Answered)
         → cond s (cond p (record { got = cond q (cond r (cond z t1 t2) t3) t4; out = l }) u) (quiet (cond q (cond r (cond z t1 t2) t3) t4) m) ≡ record { got = t2; out = cond s (cond p l m) m }
@@ -162,26 +162,26 @@ module _ (m : Mark) (p : Plan) (k : Track) (t : Trial) (i number : ℕ) (x : Tri
   not-asked e f = rw (e, f)
 
   pub made-look : openStep m (p .settings) i (k .steps) ≡ true → eqb (m .count .number) number ≡ true → isMade (m .index) p (k .sums) t x ≡ true
-      → (b : Bool) (c : Count) (y : State) → b ≡ follows p (add binary64 (k .t) (p .h)) (k .steps + 1) room → c ≡ counted (m .count) → y ≡ endOf (m .index) p (k .sums) t x
+      → (b : Bool) (c : Count) (y : State) → b ≡ follows p (add binary64 (k .t) (p .h)) (k .steps + 1) room → c ≡ nextCount (m .count) → y ≡ endOf (m .index) p (k .sums) t x
       → record { again = false; on = b; mark = record { at = 6; index = 0; stage = 0; count = c }; state = y; steps = k .steps + 1 } ≡ looked m p k t i number x room
   unfolding looked
   made-look e f g b c y u v w = rw (e, f, g, u, v, w)
 
   pub open-look : openStep m (p .settings) i (k .steps) ≡ true → eqb (m .count .number) number ≡ true → isMade (m .index) p (k .sums) t x ≡ false
-      → (c : Count) (y : State) → c ≡ counted (m .count) → y ≡ endOf (m .index) p (k .sums) t x
+      → (c : Count) (y : State) → c ≡ nextCount (m .count) → y ≡ endOf (m .index) p (k .sums) t x
       → record { again = true; on = false; mark = record { at = 6; index = m .index + 1; stage = 0; count = c }; state = y; steps = k .steps } ≡ looked m p k t i number x room
   unfolding looked
   open-look e f g c y v w = rw (e, f, g, v, w)
 
 -- ---- and of the whole run
 pub record Again (run : Run) (number : ℕ) (x : Triple) (out : List Float) (l : Look) : Type 0 where
-  pub mark : l .mark ≡ markOf (Step (run .mark .index + 1)) (counted (run .mark .count))
-  pub turn : answered run number x out ≡ quiet (asking (Step (run .mark .index + 1)) (counted (run .mark .count)) (tried (run .body) (l .state))) out
+  pub mark : l .mark ≡ markAt (Step (run .mark .index + 1)) (nextCount (run .mark .count))
+  pub turn : answered run number x out ≡ quiet (asking (Step (run .mark .index + 1)) (nextCount (run .mark .count)) (tried (run .body) (l .state))) out
 
 pub record On (run : Run) (number : ℕ) (x : Triple) (out : List Float) (l : Look) : Type 0 where
-  pub mark : l .mark ≡ markOf (Step 0) (counted (run .mark .count))
+  pub mark : l .mark ≡ markAt (Step 0) (nextCount (run .mark .count))
   pub turn : answered run number x out ≡ record {
-    got = asking (Step 0) (counted (run .mark .count)) (predicted (arrived (run .body) (trackBy l (run .body .plan) (run .body .track) x) x));
+    got = asking (Step 0) (nextCount (run .mark .count)) (predicted (arrived (run .body) (trackBy l (run .body .plan) (run .body .track) x) x));
     out = keptSample (run .body .plan) (trackBy l (run .body .plan) (run .body .track) x) x out;
   }
 
@@ -205,11 +205,11 @@ module _ (run : Run) (number : ℕ) (x : Triple) (out : List Float) where
   its p q g =
       cond p
       (cond q
-      (record { again = false; on = g; mark = markOf (Step 0) (counted (run .mark .count)); state = End; steps = run .body .track .steps + 1 })
-      (record { again = true; on = false; mark = markOf (Step (run .mark .index + 1)) (counted (run .mark .count)); state = End; steps = run .body .track .steps }))
+      (record { again = false; on = g; mark = markAt (Step 0) (nextCount (run .mark .count)); state = End; steps = run .body .track .steps + 1 })
+      (record { again = true; on = false; mark = markAt (Step (run .mark .index + 1)) (nextCount (run .mark .count)); state = End; steps = run .body .track .steps }))
       (record { again = false; on = false; mark = run .mark; state = run .body .trial .state; steps = run .body .track .steps })
 
-  to-step : Open ≡ true → Asked ≡ true → answered run number x out ≡ stepTaken (run .mark .index) (counted (run .mark .count)) (run .body) x out
+  to-step : Open ≡ true → Asked ≡ true → answered run number x out ≡ stepTaken (run .mark .index) (nextCount (run .mark .count)) (run .body) x out
   unfolding answered answeredAt
   to-step e f = rw (sound run e, f, at-step run e)
 
@@ -222,9 +222,9 @@ module _ (run : Run) (number : ℕ) (x : Triple) (out : List Float) where
   Onto = trackOn (run .body .plan) (run .body .track) End x
 
   arrives : Made ≡ true → Open ≡ true → Asked ≡ true → Goes ≡ true
-      → answered run number x out ≡ record { got = asking (Step 0) (counted (run .mark .count)) (predicted (arrived (run .body) Onto x)); out = keptSample (run .body .plan) Onto x out }
+      → answered run number x out ≡ record { got = asking (Step 0) (nextCount (run .mark .count)) (predicted (arrived (run .body) Onto x)); out = keptSample (run .body .plan) Onto x out }
   unfolding committed arrived trackOn
-  arrives v e f g = to-step e f ∙ made-turn _ _ _ _ _ v ∙ onto (counted (run .mark .count)) (run .body) x Onto out g
+  arrives v e f g = to-step e f ∙ made-turn _ _ _ _ _ v ∙ onto (nextCount (run .mark .count)) (run .body) x Onto out g
 
   on-by : (p q g : Bool) → Open && Asked ≡ p → Made ≡ q → Goes ≡ g → its p q g .on ≡ true → On run number x out (its p q g)
   unfolding trackBy trackOn

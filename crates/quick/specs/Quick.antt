@@ -7,7 +7,7 @@ use lib.Ieee.{Float, binary64, add}
 use Rattle.triple.specs.declared.Triple.{Triple}
 use Rattle.triple.specs.declared.State.{State}
 use Rattle.triple.specs.Arithmetic.{nought, zeros}
-use Rattle.triple.specs.Nine.{slide}
+use Rattle.triple.specs.Nine.{slid}
 use Rattle.sums.specs.declared.Sums.{Sums}
 use Rattle.sums.specs.Sums.{onSums, predictedState, fixedOf, correctedState}
 use Rattle.run.specs.declared.Settings.{Settings}
@@ -17,13 +17,13 @@ use Rattle.run.specs.declared.Track.{Track}
 use Rattle.run.specs.declared.Trial.{Trial}
 use Rattle.run.specs.declared.Body.{Body}
 use Rattle.run.specs.declared.waiting.Waiting.the-variants.{Step}
-use Rattle.run.specs.Plan.{withinLimits}
-use Rattle.run.specs.Formulas.{goesOn, isShort, rests}
-use Rattle.run.specs.Waiting.{markOf}
+use Rattle.run.specs.Plan.{areWithinLimits}
+use Rattle.run.specs.Formulas.{isDue, isTail, isAtRest}
+use Rattle.run.specs.Waiting.{markAt}
 use Rattle.run.specs.Moves.{freshBody}
 use Rattle.run.specs.Counting.{stepCounts}
-use Rattle.run.specs.Samples.{fits, put}
-use Rattle.gauss_jackson.specs.Answers.{counted}
+use Rattle.run.specs.Samples.{hasRoom, put}
+use Rattle.gauss_jackson.specs.Answers.{nextCount}
 use Rattle.quick.specs.declared.Look.{Look}
 use Rattle.quick.specs.declared.Tried.{Tried}
 use Rattle.quick.specs.declared.Stepped.{Stepped}
@@ -47,7 +47,7 @@ unfoldable pub openStep : Mark → Settings → ℕ → ℕ → Bool
 openStep m s i n =
     eqb (m .at) 6
     && leb (m .stage) 3
-    && withinLimits s
+    && areWithinLimits s
     && eqb (m .count .number) (m .count .evals % 65536)
     && leb (m .index) (s .«max_corrector_iters»)
     && stepCounts (m .index) (m .count .evals) (shell s i n)
@@ -57,14 +57,14 @@ unfoldable pub endOf : ℕ → Plan → Sums → Trial → Triple → State
 endOf n p s t x = cond (ltb n (p .settings .«max_corrector_iters»)) (correctedState (p .h) s (t .fixed) x) (t .state)
 
 unfoldable pub isMade : ℕ → Plan → Sums → Trial → Triple → Bool
-isMade n p s t x = cond (ltb n (p .settings .«max_corrector_iters»)) (rests (p .settings .«corrector_tol») (t .state) (correctedState (p .h) s (t .fixed) x)) true
+isMade n p s t x = cond (ltb n (p .settings .«max_corrector_iters»)) (isAtRest (p .settings .«corrector_tol») (t .state) (correctedState (p .h) s (t .fixed) x)) true
 
 -- a further step follows at t after n steps, and the sample that is due, if any, has its place
 unfoldable pub hasPlace : Bool → ℕ → ℕ → Bool
 hasPlace wanted n room = cond wanted (leb (10 * (n + 1)) room) true
 
 unfoldable pub follows : Plan → Float → ℕ → ℕ → Bool
-follows p t n room = hasPlace (p .settings .samples) n room && goesOn p t && ltb n (p .settings .«max_steps») && not (isShort p t)
+follows p t n room = hasPlace (p .settings .samples) n room && isDue p t && ltb n (p .settings .«max_steps») && not (isTail p t)
 
 unfoldable pub looked : Mark → Plan → Track → Trial → ℕ → ℕ → Triple → ℕ → Look
 looked m p k t i number x room =
@@ -73,14 +73,14 @@ looked m p k t i number x room =
     (record {
       again = false;
       on = follows p (add binary64 (k .t) (p .h)) (k .steps + 1) room;
-      mark = markOf (Step 0) (counted (m .count));
+      mark = markAt (Step 0) (nextCount (m .count));
       state = endOf (m .index) p (k .sums) t x;
       steps = k .steps + 1;
     })
     (record {
       again = true;
       on = false;
-      mark = markOf (Step (m .index + 1)) (counted (m .count));
+      mark = markAt (Step (m .index + 1)) (nextCount (m .count));
       state = endOf (m .index) p (k .sums) t x;
       steps = k .steps;
     }))
@@ -100,21 +100,21 @@ trackBy l p k x = record { t = add binary64 (k .t) (p .h); steps = l .steps; sta
 unfoldable pub keptSample : Plan → Track → Triple → List Float → List Float
 keptSample p k x out =
     cond (p .settings .samples)
-    (cond (fits (k .steps) 1 out) (put (k .steps) (record { t = k .t; r = k .state .r; v = k .state .v; a = x }) out) out)
+    (cond (hasRoom (k .steps) 1 out) (put (k .steps) (record { t = k .t; r = k .state .r; v = k .state .v; a = x }) out) out)
     out
 
 unfoldable pub steppedBy : Look → Plan → Track → List Triple → Triple → Stepped
 steppedBy l p k old x =
     record {
       mark = l .mark;
-      a = slide old x;
+      a = slid old x;
       track = trackBy l p k x;
-      trial = record { state = predictedState (p .h) (onSums (k .sums) x) (slide old x); fixed = fixedOf (slide old x) };
+      trial = record { state = predictedState (p .h) (onSums (k .sums) x) (slid old x); fixed = fixedOf (slid old x) };
       question =
           record {
             number = l .mark .count .number;
             t = add binary64 (trackBy l p k x .t) (p .h);
-            r = predictedState (p .h) (onSums (k .sums) x) (slide old x) .r;
-            v = predictedState (p .h) (onSums (k .sums) x) (slide old x) .v;
+            r = predictedState (p .h) (onSums (k .sums) x) (slid old x) .r;
+            v = predictedState (p .h) (onSums (k .sums) x) (slid old x) .v;
           };
     }

@@ -15,8 +15,8 @@ use triple::Triple;
 use triple::nine;
 ghost use mathlib.Core.Path.{_≡_};
 ghost use Prim.Native.Nat.{_≤_, _<_};
-ghost use Rattle.run.specs.Counting.{startedUp, stepCounts, Small};
-ghost use Rattle.gauss_jackson.specs.Answers.{counted};
+ghost use Rattle.run.specs.Counting.{isStartedUp, stepCounts, Small};
+ghost use Rattle.gauss_jackson.specs.Answers.{nextCount};
 ghost use Rattle.quick.specs.Quick.{shell, openStep, endOf, isMade, hasPlace, follows, looked, triedBy, trackBy, keptSample, steppedBy};
 
 // What an answer leads to: the open step is tried once more, or it is made and the next one is open, or neither; and then where the run
@@ -51,7 +51,7 @@ struct Judged {
 }
 
 fn is_started_up(s: Settings, passes: u64, n: u64) -> bool
-    ensures { λ r. ⌜ r ≡ startedUp (shell s passes n) ⌝ }
+    ensures { λ r. ⌜ r ≡ isStartedUp (shell s passes n) ⌝ }
 {
     if passes > s.max_startup_iters {
         return false;
@@ -152,7 +152,7 @@ fn does_follow(plan: Plan, t: f64, n: u64, room: usize) -> bool
 
 fn next_count(c: Count) -> Count
     requires { ⌜ c .evals < 1000000000000 ⌝ }
-    ensures { λ n. ⌜ n ≡ counted c ⌝ }
+    ensures { λ n. ⌜ n ≡ nextCount c ⌝ }
 {
     Count {
         number: std::num::wrapping_add_u16(c.number, 1),

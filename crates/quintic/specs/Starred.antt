@@ -7,7 +7,7 @@ use lib.IntN.{pos, negsuc}
 use lib.Ieee.{Float, fin, binary64, ofInt}
 use Rattle.triple.specs.declared.Triple.{Triple}
 use Rattle.triple.specs.declared.Sample.{Sample}
-use Rattle.quintic.specs.Quintic.{quinticAt}
+use Rattle.quintic.specs.Quintic.{quinticHermite}
 
 abbrev each : Float → Triple
 each x = record { x = x; y = x; z = x }
@@ -18,4 +18,4 @@ sample t r v a = record { t = ofInt binary64 (pos t); r = each (ofInt binary64 (
 
 -- 2 ^ -1, 2 ^ -5 and 5 * 2 ^ -4. The proof is `quintic-starred` in proofs/Starred.antt
 abbrev pub Starred : Type 0
-Starred = quinticAt (sample 0 0 0 0) (sample 1 1 5 20) (fin false 1 (negsuc 0)) ≡ record { r = each (fin false 1 (negsuc 4)); v = each (fin false 5 (negsuc 3)) }
+Starred = quinticHermite (sample 0 0 0 0) (sample 1 1 5 20) (fin false 1 (negsuc 0)) ≡ record { r = each (fin false 1 (negsuc 4)); v = each (fin false 5 (negsuc 3)) }

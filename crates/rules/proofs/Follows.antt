@@ -15,8 +15,8 @@ use Rattle.run.specs.declared.Settings.{Settings}
 use Rattle.run.specs.declared.Plan.{Plan}
 use Rattle.run.specs.declared.Run.{Run}
 use Rattle.run.specs.declared.waiting.Waiting.the-variants.{Epoch}
-use Rattle.run.specs.Plan.{withinLimits, planOf, tooNear}
-use Rattle.run.specs.Questions.{epochPoint, question}
+use Rattle.run.specs.Plan.{areWithinLimits, planOf, isTooNear}
+use Rattle.run.specs.Questions.{epochPoint, questionAt}
 use Rattle.run.specs.Moves.{freshBody, surveyed}
 use Rattle.gauss_jackson.specs.declared.Answered.{Answered}
 use Rattle.gauss_jackson.specs.declared.Outcome.the-variants.{Refused}
@@ -38,7 +38,7 @@ follows (k ∷ cs) run =
 
 -- the rest of a started run is the whole integration
 started-is : (p : Plan) (r0 v0 : Triple) → restAt Epoch (freshBody p r0 v0) ≡ integrate p r0 v0
-unfolding restAt question epochPoint next surveyed freshBody integrate firstPlaces nineZeros
+unfolding restAt questionAt epochPoint next surveyed freshBody integrate firstPlaces nineZeros
 started-is p r0 v0 =
     ap (λ (m : ℕ). asks (record { t = p .t0; r = r0; v = v0 }) (λ (b : Triple).
     forward 4 4 p (firstPlaces r0 v0) (λ (x : Places).
@@ -52,14 +52,14 @@ begun x = record { said = told (x .outcome); out = []; line = lineOf (x .run) }
 
 pub begins : (s : Settings) (t0 tf : Float) (r0 v0 : Triple) → begun (started s t0 tf r0 v0) ≡ begin s t0 tf r0 v0
 unfolding begun started begin freshBody planOf seen told
-begins s t0 tf r0 v0 = go (withinLimits s) (tooNear (planOf s t0 tf)) refl
+begins s t0 tf r0 v0 = go (areWithinLimits s) (isTooNear (planOf s t0 tf)) refl
   where
-    asked : withinLimits s ≡ true → begun (asking Epoch (record { number = 0; evals = 0 }) (freshBody (planOf s t0 tf) r0 v0)) ≡ settle (integrate (planOf s t0 tf) r0 v0) 0 0 []
+    asked : areWithinLimits s ≡ true → begun (asking Epoch (record { number = 0; evals = 0 }) (freshBody (planOf s t0 tf) r0 v0)) ≡ settle (integrate (planOf s t0 tf) r0 v0) 0 0 []
     asked e =
         asked-is Epoch (record { number = 0; evals = 0 }) (freshBody (planOf s t0 tf) r0 v0) [] e refl (refl, record { passes = refl; steps = refl })
         ∙ ap (λ (t : Course). settle t 0 0 []) (started-is (planOf s t0 tf) r0 v0)
 
-    go : (d t : Bool) → withinLimits s ≡ d
+    go : (d t : Bool) → areWithinLimits s ≡ d
         → begun
         (cond d
         (cond t (ending (Refused StepNotFinite)) (asking Epoch (record { number = 0; evals = 0 }) (freshBody (planOf s t0 tf) r0 v0)))

@@ -7,15 +7,15 @@ use lib.Dec.{eqb}
 use lib.ListN.{length}
 use lib.Ieee.{Float}
 use Rattle.run.specs.declared.Run.{Run}
-use Rattle.run.specs.Plan.{withinLimits, planOf, tooNear}
-use Rattle.run.specs.Questions.{question}
-use Rattle.run.specs.Samples.{fits, putAll}
-use Rattle.run.specs.Counting.{soundOf}
+use Rattle.run.specs.Plan.{areWithinLimits, planOf, isTooNear}
+use Rattle.run.specs.Questions.{questionAt}
+use Rattle.run.specs.Samples.{hasRoom, putAll}
+use Rattle.run.specs.Counting.{isSound}
 use Rattle.gauss_jackson.specs.declared.Outcome.{Outcome}
 use Rattle.gauss_jackson.specs.Answers.{answered, started}
 use Rattle.rules.specs.Rules.{Course, asks, stores, ends, exceeds, integrate}
 use Rattle.rules.specs.Walk.{Said, refused, finished, told, Call, Line, open-at, over, Stop, settle, turn, begin}
-use Rattle.rules.specs.Walk.{question as questionSaid}
+use Rattle.rules.specs.Walk.{questionAt as questionSaid}
 use Rattle.rules.specs.Follows.{NeverSeven}
 use Rattle.rules.proofs.Rest.{rest, opened, lineOf, seen}
 use Rattle.rules.proofs.Calls.{call-is}
@@ -34,7 +34,7 @@ isAsked (refused n) = false
 settled-open : (t : Course) (n e : ℕ) (out : List Float) → isAsked (settle t n e out .said) ≡ isOpen (settle t n e out .line)
 unfolding settle isOpen isAsked
 settled-open (asks q k) n e out = refl
-settled-open (stores i ss t) n e out = go (fits i (length ss) out) (settled-open t n e (putAll i ss out))
+settled-open (stores i ss t) n e out = go (hasRoom i (length ss) out) (settled-open t n e (putAll i ss out))
   where
     go : (d : Bool) → isAsked (settle t n e (putAll i ss out) .said) ≡ isOpen (settle t n e (putAll i ss out) .line)
         → isAsked (cond d (settle t n e (putAll i ss out)) (record { said = refused 6; out = out; line = over }) .said) ≡ isOpen (cond d (settle t n e (putAll i ss out)) (record { said = refused 6; out = out; line = over }) .line)
@@ -55,9 +55,9 @@ turned-open (open-at n e q r) k = go (eqb n (k .number))
 turned-open over k = λ h. h
 
 -- a line that is open is that of a sound run
-open-sound : (run : Run) → isOpen (lineOf run) ≡ true → soundOf run ≡ true
+open-sound : (run : Run) → isOpen (lineOf run) ≡ true → isSound run ≡ true
 unfolding lineOf isOpen
-open-sound run = go (soundOf run)
+open-sound run = go (isSound run)
   where
     go : (d : Bool) → isOpen (cond d (opened (run .mark .count .number) (run .mark .count .evals) (rest run)) over) ≡ true → d ≡ true
     go true h = refl
@@ -70,7 +70,7 @@ never-seven =
       after-start = λ s t0 tf r0 v0 q e.
           open-sound (started s t0 tf r0 v0 .run)
           (ap (λ (x : Stop). isOpen (x .line)) (begins s t0 tf r0 v0)
-          ∙ begin-open (withinLimits s) (tooNear (planOf s t0 tf)) (integrate (planOf s t0 tf) r0 v0) (sym (ap (λ (x : Stop). isAsked (x .said)) (begins s t0 tf r0 v0)) ∙ ap (λ (o : Outcome). isAsked (told o)) e));
+          ∙ begin-open (areWithinLimits s) (isTooNear (planOf s t0 tf)) (integrate (planOf s t0 tf) r0 v0) (sym (ap (λ (x : Stop). isAsked (x .said)) (begins s t0 tf r0 v0)) ∙ ap (λ (o : Outcome). isAsked (told o)) e));
       after-answer = λ run k q e.
           open-sound (answered run (k .number) (k .a) (k .out) .got .run)
           (ap (λ (x : Stop). isOpen (x .line)) (call-is run k)

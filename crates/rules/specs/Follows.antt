@@ -8,7 +8,7 @@ use lib.Ieee.{Float}
 use Rattle.triple.specs.declared.Triple.{Triple}
 use Rattle.run.specs.declared.Settings.{Settings}
 use Rattle.run.specs.declared.Run.{Run}
-use Rattle.run.specs.Counting.{soundOf}
+use Rattle.run.specs.Counting.{isSound}
 use Rattle.gauss_jackson.specs.declared.Question.{Question}
 use Rattle.gauss_jackson.specs.declared.Outcome.the-variants.{Ask}
 use Rattle.gauss_jackson.specs.Answers.{Turn, answered, started}
@@ -31,7 +31,7 @@ pub record FollowsTheRules (s : Settings) (t0 tf : Float) (r0 v0 : Triple) (cs :
 
 -- where a call asks, the run that it gives is one that answer 7 does not refuse: a line from `start` never meets 7 while a question is open
 pub record NeverSeven : Type 0 where
-  pub after-start : (s : Settings) (t0 tf : Float) (r0 v0 : Triple) (q : Question) → started s t0 tf r0 v0 .outcome ≡ Ask q → soundOf (started s t0 tf r0 v0 .run) ≡ true
+  pub after-start : (s : Settings) (t0 tf : Float) (r0 v0 : Triple) (q : Question) → started s t0 tf r0 v0 .outcome ≡ Ask q → isSound (started s t0 tf r0 v0 .run) ≡ true
   pub after-answer : (run : Run) (c : Call) (q : Question)
       → answered run (c .number) (c .a) (c .out) .got .outcome ≡ Ask q
-      → soundOf (answered run (c .number) (c .a) (c .out) .got .run) ≡ true
+      → isSound (answered run (c .number) (c .a) (c .out) .got .run) ≡ true

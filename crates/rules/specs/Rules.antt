@@ -9,18 +9,18 @@ use Rattle.triple.specs.declared.Triple.{Triple}
 use Rattle.triple.specs.declared.State.{State}
 use Rattle.triple.specs.declared.Point.{Point}
 use Rattle.triple.specs.declared.Sample.{Sample}
-use Rattle.triple.specs.Nine.{at, nineZeros, slide}
-use Rattle.rk4.specs.Rk4.{second, third, fourth, ending}
+use Rattle.triple.specs.Nine.{at, nineZeros, slid}
+use Rattle.rk4.specs.Rk4.{secondQuestion, thirdQuestion, fourthQuestion, endOfStep}
 use Rattle.sums.specs.declared.Fixed.{Fixed}
 use Rattle.sums.specs.Sums.{predictedState, fixedOf, correctedState}
 use Rattle.startup.specs.declared.Places.{Places}
 use Rattle.startup.specs.declared.Widest.{Widest}
 use Rattle.startup.specs.Points.{pointAt, firstPlaces, placed}
-use Rattle.startup.specs.Passes.{passPlaces, widened, calm, settled}
+use Rattle.startup.specs.Passes.{passPlaces, widened, calmAt, isSettled}
 use Rattle.run.specs.declared.Plan.{Plan}
 use Rattle.run.specs.declared.Track.{Track}
-use Rattle.run.specs.Formulas.{remains, goesOn, isShort, rests, startTrack, trackOn, stepPoint, tailPoint, finalPoint}
-use Rattle.run.specs.Samples.{startSamples, stepSample, finalSample}
+use Rattle.run.specs.Formulas.{leftAt, isDue, isTail, isAtRest, startTrack, trackOn, stepPoint, tailFrom, finalPoint}
+use Rattle.run.specs.Samples.{startSamples, stepSample, lastSample}
 
 pub data Course : Type 0 where
   asks : Point → (Triple → Course) → Course  -- a question at a time, a position and a velocity; then by the acceleration got
@@ -32,10 +32,10 @@ pub data Course : Type 0 where
 unfoldable pub rk4 : Point → Float → (State → Course) → Course
 rk4 p h k =
     asks p (λ (l1 : Triple).
-    asks (second p h l1) (λ (l2 : Triple).
-    asks (third p h l1 l2) (λ (l3 : Triple).
-    asks (fourth p h l2 l3) (λ (l4 : Triple).
-    k (ending p h l1 l2 l3 l4)))))
+    asks (secondQuestion p h l1) (λ (l2 : Triple).
+    asks (thirdQuestion p h l1 l2) (λ (l3 : Triple).
+    asks (fourthQuestion p h l2 l3) (λ (l4 : Triple).
+    k (endOfStep p h l1 l2 l3 l4)))))
 
 -- ---- "1. a[4] at t0. RK4 forward to points 5, 6, 7, 8, then backward with -h to 3, 2, 1, 0. Then a[i] for i = 0, 1, 2, 3, 5, 6, 7, 8."
 -- forward from point i, so many steps
@@ -67,8 +67,8 @@ renew (i ∷ is) p x a w k =
 unfoldable pub passes : (left : ℕ) → ℕ → Plan → Places → List Triple → (ℕ → Places → List Triple → Course) → Course
 passes zero n p x a k = k n x a
 passes (suc left) n p x a k =
-    renew others p (passPlaces (p .h) x a) a (calm a) (λ (a' : List Triple) (w : Widest).
-    cond (settled (p .settings .«startup_tol») w)
+    renew others p (passPlaces (p .h) x a) a (calmAt a) (λ (a' : List Triple) (w : Widest).
+    cond (isSettled (p .settings .«startup_tol») w)
     (k (n + 1) (passPlaces (p .h) x a) a')
     (passes left (n + 1) p (passPlaces (p .h) x a) a' k))
 
@@ -79,9 +79,9 @@ sampled p n ss c = cond (p .settings .samples) (stores n ss c) c
 -- ---- "RK4 over rem, with samples one more question at tf, end at tf with one more step"
 unfoldable pub tail : Plan → ℕ → Track → Course
 tail p startups k =
-    rk4 (tailPoint k) (remains p (k .t)) (λ (e : State).
+    rk4 (tailFrom k) (leftAt p (k .t)) (λ (e : State).
     cond (p .settings .samples)
-    (asks (finalPoint p e) (λ (b : Triple). stores (k .steps + 1) (finalSample p e b ∷ []) (ends (p .tf) e (k .steps + 1) startups)))
+    (asks (finalPoint p e) (λ (b : Triple). stores (k .steps + 1) (lastSample p e b ∷ []) (ends (p .tf) e (k .steps + 1) startups)))
     (ends (p .tf) e (k .steps + 1) startups))
 
 -- ---- "each pass: r = .., v = .. Stop if [..]; else ask again". y is the state so far, b the acceleration there; `left` passes may still be made.
@@ -89,7 +89,7 @@ tail p startups k =
 unfoldable pub correct : (left : ℕ) → Plan → Track → Fixed → State → Triple → (State → Triple → Course) → Course
 correct zero p k f y b commit = commit y b
 correct (suc left) p k f y b commit =
-    cond (rests (p .settings .«corrector_tol») y (correctedState (p .h) (k .sums) f b))
+    cond (isAtRest (p .settings .«corrector_tol») y (correctedState (p .h) (k .sums) f b))
     (commit (correctedState (p .h) (k .sums) f b) b)
     (asks (stepPoint p k (correctedState (p .h) (k .sums) f b)) (λ (c : Triple).
     correct left p k f (correctedState (p .h) (k .sums) f b) c commit))
@@ -103,13 +103,13 @@ step p k a commit =
 -- ---- "While (tf - t)·dir > 0: test max_steps; [..] If abs(rem) - abs(h) < -1e-12·abs(h): [tail] Else: [step]; commit: slide, .., one step"
 -- k is the newest point, a the window of accelerations; `left` steps may still be made
 unfoldable pub march : (left : ℕ) → Plan → ℕ → Track → List Triple → Course
-march zero p startups k a = cond (goesOn p (k .t)) exceeds (ends (k .t) (k .state) (k .steps) startups)
+march zero p startups k a = cond (isDue p (k .t)) exceeds (ends (k .t) (k .state) (k .steps) startups)
 march (suc left) p startups k a =
-    cond (goesOn p (k .t))
-    (cond (isShort p (k .t))
+    cond (isDue p (k .t))
+    (cond (isTail p (k .t))
     (tail p startups k)
     (step p k a (λ (y : State) (b : Triple).
-    sampled p (k .steps + 1) (stepSample (trackOn p k y b) (slide a b) ∷ []) (march left p startups (trackOn p k y b) (slide a b)))))
+    sampled p (k .steps + 1) (stepSample (trackOn p k y b) (slid a b) ∷ []) (march left p startups (trackOn p k y b) (slid a b)))))
     (ends (k .t) (k .state) (k .steps) startups)
 
 -- after the startup: "with samples, points 4 to 8 are stored", then the steps

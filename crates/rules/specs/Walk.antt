@@ -12,8 +12,8 @@ use Rattle.triple.specs.declared.Point.{Point}
 use Rattle.refusals.specs.Numbers.{numberOf}
 use Rattle.refusals.specs.declared.Refusal.the-variants.{StepNotFinite, MaxStepsExceeded, Setting, SampleRoom, NoQuestion, NotThatQuestion}
 use Rattle.run.specs.declared.Settings.{Settings}
-use Rattle.run.specs.Plan.{withinLimits, planOf, tooNear}
-use Rattle.run.specs.Samples.{fits, putAll}
+use Rattle.run.specs.Plan.{areWithinLimits, planOf, isTooNear}
+use Rattle.run.specs.Samples.{hasRoom, putAll}
 use Rattle.gauss_jackson.specs.declared.Outcome.{Outcome}
 use Rattle.gauss_jackson.specs.declared.Outcome.the-variants.{Ask, Done, Refused}
 use Rattle.rules.specs.Rules.{Course, asks, stores, ends, exceeds, integrate}
@@ -56,7 +56,7 @@ pub record Stop : Type 0 where
 unfoldable pub settle : Course → (n e : ℕ) → List Float → Stop
 settle (asks q k) n e out = record { said = question n q; out = out; line = open-at n e q k }
 settle (stores i ss c) n e out =
-    cond (fits i (length ss) out) (settle c n e (putAll i ss out)) (record { said = refused (numberOf SampleRoom); out = out; line = over })
+    cond (hasRoom i (length ss) out) (settle c n e (putAll i ss out)) (record { said = refused (numberOf SampleRoom); out = out; line = over })
 settle (ends t y steps startups) n e out = record { said = finished t y e steps startups; out = out; line = over }
 settle exceeds n e out = record { said = refused (numberOf MaxStepsExceeded); out = out; line = over }
 
@@ -76,8 +76,8 @@ walk l (c ∷ cs) = record { said = turn l c .said; out = turn l c .out } ∷ wa
 -- a start: "Order: at start 5, 1"; else question 0, the first of the tree
 unfoldable pub begin : Settings → Float → Float → Triple → Triple → Stop
 begin s t0 tf r0 v0 =
-    cond (withinLimits s)
-    (cond (tooNear (planOf s t0 tf))
+    cond (areWithinLimits s)
+    (cond (isTooNear (planOf s t0 tf))
     (record { said = refused (numberOf StepNotFinite); out = []; line = over })
     (settle (integrate (planOf s t0 tf) r0 v0) 0 0 []))
     (record { said = refused (numberOf Setting); out = []; line = over })

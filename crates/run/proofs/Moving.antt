@@ -14,8 +14,8 @@ use Rattle.run.specs.declared.waiting.Stage.{Stage}
 use Rattle.run.specs.declared.waiting.Stage.the-variants.{First, Second, Third, Fourth}
 use Rattle.run.specs.declared.waiting.Waiting.{Waiting}
 use Rattle.run.specs.declared.waiting.Waiting.the-variants.{Epoch, Forward, Backward, Survey, Pass, Step, Tail, TailSample}
-use Rattle.run.specs.Waiting.{stageNo, nextPoint}
-use Rattle.run.specs.Counting.{rank}
+use Rattle.run.specs.Waiting.{stageNumber, nextPoint}
+use Rattle.run.specs.Counting.{rankOf}
 use Rattle.run.specs.Formulas.{startTrack, trackOn}
 use Rattle.run.specs.Moves.{surveyed, kept, movedOn, movedBack, passBegun, renewed, passMade, launched, predicted, tried, committed}
 use Rattle.run.proofs.Counts.{Stepping, SteppingBody, Point, Counts}
@@ -63,13 +63,13 @@ module _ (i e : ℕ) (b : Body) (x : Triple) where
   backward-on h c = (omega arith, omega arith, omega arith, c .3)
 
   pub backward-last : i ≤ 1 → Counts (Backward i Fourth) e b → Counts (Survey 0) (e + 1) (movedBack i b x)
-  unfolding movedBack rank
+  unfolding movedBack rankOf
   backward-last h c = (record { last = omega arith; other = omega arith; answers = omega arith }, c .3)
 
 -- ---- the points other than the epoch, in order
 -- point i is followed by the next, which is one further in rank
-pub ranked : (i : ℕ) → i < 8 → i ≢ 4 → (nextPoint i ≤ 8) × (nextPoint i ≢ 4) × (rank (nextPoint i) ≡ rank i + 1)
-unfolding rank nextPoint
+pub ranked : (i : ℕ) → i < 8 → i ≢ 4 → (nextPoint i ≤ 8) × (nextPoint i ≢ 4) × (rankOf (nextPoint i) ≡ rankOf i + 1)
+unfolding rankOf nextPoint
 ranked i h o = three (eqb i 3) refl
   where
     go : (p r : Bool) → i ≢ 3 → ltb i 4 ≡ p → ltb (i + 1) 4 ≡ r → cond r (i + 1) (i + 1 - 1) ≡ cond p i (i - 1) + 1
@@ -82,8 +82,8 @@ ranked i h o = three (eqb i 3) refl
     three true q = let z : i ≡ 3 = eqb-true _ _ q in (omega arith, omega arith, rw z)
     three false q = let z : i ≢ 3 = eqb-false _ _ q in (omega arith, omega arith, go (ltb i 4) (ltb (i + 1) 4) z refl refl)
 
-pub last-rank : (i : ℕ) → 8 ≤ i → i ≤ 8 → rank i ≡ 7
-unfolding rank
+pub last-rank : (i : ℕ) → 8 ≤ i → i ≤ 8 → rankOf i ≡ 7
+unfolding rankOf
 last-rank i h k = let z : i ≡ 8 = omega arith in rw z
 
 point-on : (i before e : ℕ) → i < 8 → Point i before e → Point (nextPoint i) before (e + 1)
@@ -114,7 +114,7 @@ module _ (i e : ℕ) (b : Body) (x : Triple) where
   pass-last h c = record { answers = omega (arith, last-rank i h (c .2 .last), c .2 .answers); most = omega (arith, c .0); steps = c .1 }
 
 pub pass-first : (e : ℕ) (b : Body) → Swept e b → b .«startup_iters» < b .plan .settings .«max_startup_iters» → Counts (Pass 0) e (passBegun b)
-unfolding passBegun rank
+unfolding passBegun rankOf
 pass-first e b s h = (h, s .steps, record { last = omega arith; other = omega arith; answers = omega (arith, s .answers) })
 
 -- ---- the steps

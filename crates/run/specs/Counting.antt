@@ -9,64 +9,64 @@ use Rattle.run.specs.declared.Body.{Body}
 use Rattle.run.specs.declared.waiting.Stage.{Stage}
 use Rattle.run.specs.declared.waiting.Waiting.{Waiting}
 use Rattle.run.specs.declared.waiting.Waiting.the-variants.{Epoch, Forward, Backward, Survey, Pass, Step, Tail, TailSample, Ended, Unknown}
-use Rattle.run.specs.Plan.{withinLimits}
-use Rattle.run.specs.Waiting.{stageNo, waitingOf}
+use Rattle.run.specs.Plan.{areWithinLimits}
+use Rattle.run.specs.Waiting.{stageNumber, waitsAt}
 
 -- no startup pass is made, and no step
-unfoldable pub idle : Body → Bool
-idle b = eqb (b .«startup_iters») 0 && eqb (b .track .steps) 0
+unfoldable pub isIdle : Body → Bool
+isIdle b = eqb (b .«startup_iters») 0 && eqb (b .track .steps) 0
 
 -- on from point i, 4 to 7: e = 1 + 4(i-4) + stage
 unfoldable pub forwardCounts : ℕ → Stage → ℕ → Bool
-forwardCounts i s e = leb 4 i && leb i 7 && eqb e (4 * i + stageNo s - 15)
+forwardCounts i s e = leb 4 i && leb i 7 && eqb e (4 * i + stageNumber s - 15)
 
 -- back from point i, 4 to 1: e = 17 + 4(4-i) + stage
 unfoldable pub backwardCounts : ℕ → Stage → ℕ → Bool
-backwardCounts i s e = leb 1 i && leb i 4 && eqb e (33 + stageNo s - 4 * i)
+backwardCounts i s e = leb 1 i && leb i 4 && eqb e (33 + stageNumber s - 4 * i)
 
 -- how many of the points 0, 1, 2, 3, 5, 6, 7, 8 come before point i
-unfoldable pub rank : ℕ → ℕ
-rank i = cond (ltb i 4) i (i - 1)
+unfoldable pub rankOf : ℕ → ℕ
+rankOf i = cond (ltb i 4) i (i - 1)
 
 unfoldable pub pointCounts : ℕ → ℕ → ℕ → Bool
-pointCounts i before e = leb i 8 && not (eqb i 4) && eqb e (before + rank i)
+pointCounts i before e = leb i 8 && not (eqb i 4) && eqb e (before + rankOf i)
 
 unfoldable pub passCounts : ℕ → ℕ → Body → Bool
 passCounts i e b =
     ltb (b .«startup_iters») (b .plan .settings .«max_startup_iters») && eqb (b .track .steps) 0 && pointCounts i (41 + 8 * b .«startup_iters») e
 
 -- S "from 1, or 0 where max_startup_iters is 0, to max_startup_iters"
-unfoldable pub startedUp : Body → Bool
-startedUp b =
+unfoldable pub isStartedUp : Body → Bool
+isStartedUp b =
     leb (b .«startup_iters») (b .plan .settings .«max_startup_iters»)
     && cond (eqb (b .«startup_iters») 0) (eqb (b .plan .settings .«max_startup_iters») 0) (not false)
 
 -- n steps, 4 <= n < max_steps, and k answers in the open one: e from 41 + 8S + k + (n-4) to 41 + 8S + k + (n-4)(1+C)
 unfoldable pub stepCounts : ℕ → ℕ → Body → Bool
 stepCounts k e b =
-    startedUp b
+    isStartedUp b
     && leb 4 (b .track .steps)
     && ltb (b .track .steps) (b .plan .settings .«max_steps»)
     && leb (41 + 8 * b .«startup_iters» + k + (b .track .steps - 4)) e
     && leb e (41 + 8 * b .«startup_iters» + k + (b .track .steps - 4) * (1 + b .plan .settings .«max_corrector_iters»))
 
-unfoldable pub countsOf : Waiting → ℕ → Body → Bool
-countsOf Epoch e b = eqb e 0 && idle b
-countsOf (Forward i s) e b = forwardCounts i s e && idle b
-countsOf (Backward i s) e b = backwardCounts i s e && idle b
-countsOf (Survey i) e b = pointCounts i 33 e && idle b
-countsOf (Pass i) e b = passCounts i e b
-countsOf (Step c) e b = leb c (b .plan .settings .«max_corrector_iters») && stepCounts c e b
-countsOf (Tail s) e b = stepCounts (stageNo s) e b
-countsOf TailSample e b = b .plan .settings .samples && stepCounts 4 e b
-countsOf Ended e b = false
-countsOf Unknown e b = false
+unfoldable pub hasCounts : Waiting → ℕ → Body → Bool
+hasCounts Epoch e b = eqb e 0 && isIdle b
+hasCounts (Forward i s) e b = forwardCounts i s e && isIdle b
+hasCounts (Backward i s) e b = backwardCounts i s e && isIdle b
+hasCounts (Survey i) e b = pointCounts i 33 e && isIdle b
+hasCounts (Pass i) e b = passCounts i e b
+hasCounts (Step c) e b = leb c (b .plan .settings .«max_corrector_iters») && stepCounts c e b
+hasCounts (Tail s) e b = stepCounts (stageNumber s) e b
+hasCounts TailSample e b = b .plan .settings .samples && stepCounts 4 e b
+hasCounts Ended e b = false
+hasCounts Unknown e b = false
 
-unfoldable pub soundOf : Run → Bool
-soundOf run =
-    withinLimits (run .body .plan .settings)
+unfoldable pub isSound : Run → Bool
+isSound run =
+    areWithinLimits (run .body .plan .settings)
     && eqb (run .mark .count .number) (run .mark .count .evals % 65536)
-    && countsOf (waitingOf (run .mark)) (run .mark .count .evals) (run .body)
+    && hasCounts (waitsAt (run .mark)) (run .mark .count .evals) (run .body)
 
 -- the settings' limits, as numbers
 pub record Small (b : Body) : Type 0 where

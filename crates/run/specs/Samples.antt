@@ -15,8 +15,8 @@ use Rattle.run.specs.declared.Plan.{Plan}
 use Rattle.run.specs.declared.Track.{Track}
 
 -- samples n to n + m - 1 all fit in the buffer
-unfoldable pub fits : ℕ → ℕ → List Float → Bool
-fits n m out = leb (10 * (n + m)) (length out)
+unfoldable pub hasRoom : ℕ → ℕ → List Float → Bool
+hasRoom n m out = leb (10 * (n + m)) (length out)
 
 unfoldable pub put : ℕ → Sample → List Float → List Float
 put n s out =
@@ -33,17 +33,17 @@ putAll n (s ∷ ss) out = putAll (n + 1) ss (put n s out)
 
 -- ---- what is stored, and when
 -- point i of the startup
-unfoldable pub pointSample : Plan → Places → List Triple → ℕ → Sample
-pointSample p x a i = record { t = timeAt (p .t0) (p .h) i; r = at (x .r) i; v = at (x .v) i; a = at a i }
+unfoldable pub gridSample : Plan → Places → List Triple → ℕ → Sample
+gridSample p x a i = record { t = timeAt (p .t0) (p .h) i; r = at (x .r) i; v = at (x .v) i; a = at a i }
 
 -- after the startup: "with samples, points 4 to 8 are stored"
 unfoldable pub startSamples : Plan → Places → List Triple → List Sample
-startSamples p x a = pointSample p x a 4 ∷ pointSample p x a 5 ∷ pointSample p x a 6 ∷ pointSample p x a 7 ∷ pointSample p x a 8 ∷ []
+startSamples p x a = gridSample p x a 4 ∷ gridSample p x a 5 ∷ gridSample p x a 6 ∷ gridSample p x a 7 ∷ gridSample p x a 8 ∷ []
 
 -- after a commit: the newest point, with the newest acceleration
 unfoldable pub stepSample : Track → List Triple → Sample
 stepSample k a = record { t = k .t; r = k .state .r; v = k .state .v; a = at a 8 }
 
 -- after the tail, at tf
-unfoldable pub finalSample : Plan → State → Triple → Sample
-finalSample p y b = record { t = p .tf; r = y .r; v = y .v; a = b }
+unfoldable pub lastSample : Plan → State → Triple → Sample
+lastSample p y b = record { t = p .tf; r = y .r; v = y .v; a = b }

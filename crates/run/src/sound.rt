@@ -1,7 +1,7 @@
 // Whether a question of a run is open: neither ended nor made up (01, answer 7).
 ghost use mathlib.Core.Path.{_≡_};
 ghost use Prim.Native.Nat.{_≤_};
-ghost use Rattle.run.specs.Counting.{idle, rank, forwardCounts, backwardCounts, pointCounts, passCounts, startedUp, stepCounts, countsOf, soundOf, Small};
+ghost use Rattle.run.specs.Counting.{isIdle, rankOf, forwardCounts, backwardCounts, pointCounts, passCounts, isStartedUp, stepCounts, hasCounts, isSound, Small};
 use crate::Body;
 use crate::Run;
 use crate::limits;
@@ -10,7 +10,7 @@ use crate::waiting::Stage;
 use crate::waiting::Waiting;
 
 pub fn is_sound(run: Run) -> bool
-    ensures { λ r. ⌜ r ≡ soundOf run ⌝ }
+    ensures { λ r. ⌜ r ≡ isSound run ⌝ }
 {
     let mark = run.mark;
     let b = run.body;
@@ -27,7 +27,7 @@ pub fn is_sound(run: Run) -> bool
 
 // No startup pass is made, and no step.
 fn is_idle(b: Body) -> bool
-    ensures { λ r. ⌜ r ≡ idle b ⌝ }
+    ensures { λ r. ⌜ r ≡ isIdle b ⌝ }
 {
     if b.startup_iters != 0 {
         return false;
@@ -61,7 +61,7 @@ fn backward_counts(i: u8, s: Stage, e: u64) -> bool
 
 // How many of the eight points other than the epoch come before point i.
 fn rank_of(i: u8) -> u64
-    ensures { λ n. ⌜ n ≡ rank i ⌝ }
+    ensures { λ n. ⌜ n ≡ rankOf i ⌝ }
 {
     if i < 4 { i as u64 } else { (i as u64) - 1 }
 }
@@ -95,7 +95,7 @@ fn pass_counts(i: u8, e: u64, b: Body) -> bool
 
 // The startup passes lie within their bounds.
 fn is_started_up(b: Body) -> bool
-    ensures { λ r. ⌜ r ≡ startedUp b ⌝ }
+    ensures { λ r. ⌜ r ≡ isStartedUp b ⌝ }
 {
     if b.startup_iters > b.plan.settings.max_startup_iters {
         return false;
@@ -130,7 +130,7 @@ fn step_counts(k: u64, e: u64, b: Body) -> bool
 
 fn has_counts(w: Waiting, e: u64, b: Body) -> bool
     requires { ⌜ Small b ⌝ }
-    ensures { λ r. ⌜ r ≡ countsOf w e b ⌝ }
+    ensures { λ r. ⌜ r ≡ hasCounts w e b ⌝ }
 {
     match w {
         Waiting::Epoch => if e == 0 { is_idle(b) } else { false },

@@ -1,6 +1,6 @@
 // The waiting point: plain numbers in the run, one of these cases everywhere else.
 ghost use mathlib.Core.Path.{_≡_};
-ghost use Rattle.run.specs.Waiting.{stageNo, atOf, indexOf, stageOf, markOf, stageFrom, waitingOf};
+ghost use Rattle.run.specs.Waiting.{stageNumber, atNumber, indexNumber, stageAt, markAt, stageFrom, waitsAt};
 use crate::Count;
 use crate::Mark;
 
@@ -36,7 +36,7 @@ pub enum Waiting {
 }
 
 pub fn stage_number(s: Stage) -> u8
-    ensures { λ n. ⌜ n ≡ stageNo s ⌝ }
+    ensures { λ n. ⌜ n ≡ stageNumber s ⌝ }
 {
     match s {
         Stage::First => 0,
@@ -47,7 +47,7 @@ pub fn stage_number(s: Stage) -> u8
 }
 
 fn at_number(w: Waiting) -> u8
-    ensures { λ n. ⌜ n ≡ atOf w ⌝ }
+    ensures { λ n. ⌜ n ≡ atNumber w ⌝ }
 {
     match w {
         Waiting::Ended => 0,
@@ -64,7 +64,7 @@ fn at_number(w: Waiting) -> u8
 }
 
 fn index_number(w: Waiting) -> u8
-    ensures { λ n. ⌜ n ≡ indexOf w ⌝ }
+    ensures { λ n. ⌜ n ≡ indexNumber w ⌝ }
 {
     match w {
         Waiting::Forward(i, _) => i,
@@ -81,7 +81,7 @@ fn index_number(w: Waiting) -> u8
 }
 
 fn stage_at(w: Waiting) -> u8
-    ensures { λ n. ⌜ n ≡ stageOf w ⌝ }
+    ensures { λ n. ⌜ n ≡ stageAt w ⌝ }
 {
     match w {
         Waiting::Forward(_, s) => stage_number(s),
@@ -99,7 +99,7 @@ fn stage_at(w: Waiting) -> u8
 
 // A waiting point in numbers, with the counts of its question.
 pub fn mark_at(w: Waiting, count: Count) -> Mark
-    ensures { λ m. ⌜ m ≡ markOf w count ⌝ }
+    ensures { λ m. ⌜ m ≡ markAt w count ⌝ }
 {
     let at = at_number(w);
     let index = index_number(w);
@@ -126,7 +126,7 @@ fn stage_from(n: u8) -> Stage
 
 // The waiting point that a mark's numbers mean.
 pub fn waits_at(m: Mark) -> Waiting
-    ensures { λ w. ⌜ w ≡ waitingOf m ⌝ }
+    ensures { λ w. ⌜ w ≡ waitsAt m ⌝ }
 {
     let at = m.at;
     let index = m.index;

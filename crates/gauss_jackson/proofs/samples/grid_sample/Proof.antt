@@ -1,12 +1,12 @@
--- `samples::grid_sample` is `pointSample`.
+-- `samples::grid_sample` is `gridSample`.
 use borrow.Author.Needs.{needs}
-use Rattle.run.specs.Samples.{pointSample}
+use Rattle.run.specs.Samples.{gridSample}
 use Rattle.startup.specs.Points.{pointAt}
 use Rattle.gauss_jackson.proofs.samples.grid_sample.Statement.{statement}
 use Rattle.gauss_jackson.proofs.samples.grid_sample.Tie as tie
 
 returns : tie.Need-returns
-unfolding pointSample pointAt
+unfolding gridSample pointAt
 returns c = simp (c .element .ensures, c .before .before .before .point-at .ensures)
 
 pub grid-sample-spec : {M : Type 1} → statement M

@@ -1,12 +1,12 @@
--- `samples::has_room` is `fits`.
+-- `samples::has_room` is `hasRoom`.
 use mathlib.Core.Path.{refl}
 use borrow.Author.Needs.{needs}
-use Rattle.run.specs.Samples.{fits}
+use Rattle.run.specs.Samples.{hasRoom}
 use Rattle.gauss_jackson.proofs.samples.has_room.Statement.{statement}
 use Rattle.gauss_jackson.proofs.samples.has_room.Tie as tie
 
 returns : tie.Need-returns
-unfolding fits
+unfolding hasRoom
 returns c = refl
 
 pub has-room-spec : {M : Type 1} → statement M

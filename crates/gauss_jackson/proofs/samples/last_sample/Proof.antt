@@ -1,11 +1,11 @@
--- `samples::last_sample` is `finalSample`.
+-- `samples::last_sample` is `lastSample`.
 use mathlib.Core.Path.{refl}
-use Rattle.run.specs.Samples.{finalSample}
+use Rattle.run.specs.Samples.{lastSample}
 use Rattle.gauss_jackson.proofs.samples.last_sample.Statement.{statement}
 use Rattle.gauss_jackson.proofs.samples.last_sample.Tie as tie
 
 returns : tie.Need-returns
-unfolding finalSample
+unfolding lastSample
 returns c = refl
 
 pub last-sample-spec : {M : Type 1} → statement M

@@ -2,7 +2,7 @@
 use mathlib.Core.Path.{sym, _∙_}
 use borrow.Author.Needs.{needs}
 use borrow.Author.Tests.{not-true, not-false, leb-true}
-use Rattle.run.specs.Samples.{fits, startSamples}
+use Rattle.run.specs.Samples.{hasRoom, startSamples}
 use Rattle.gauss_jackson.specs.Answers.{startupEnded}
 use Rattle.gauss_jackson.proofs.turns.end_startup.Statement.{statement}
 use Rattle.gauss_jackson.proofs.Sampling.{unwanted, no-room, stored}
@@ -17,7 +17,7 @@ unfolding startupEnded startSamples
 returns-2 c = rw (← c .before .before .before .before .before .before .launch .ensures) (no-room _ _ _ _ _ _ (c .before .before .before .before .if1 .left) (sym (c .before .before .has-room .ensures) ∙ not-true _ (c .before .if2 .taken)) (c .end .ensures))
 
 store-startup-requires : tie.Need-store-startup-requires
-unfolding fits
+unfolding hasRoom
 store-startup-requires c κs = leb-true _ _ (sym (c .before .before .has-room .ensures) ∙ not-false _ (c .before .if2 .left))
 
 returns-3 : tie.Need-returns-3

@@ -2,7 +2,7 @@
 use mathlib.Core.Path.{sym, _∙_}
 use borrow.Author.Needs.{needs}
 use borrow.Author.Tests.{not-true, not-false, leb-true}
-use Rattle.run.specs.Samples.{fits, putAll}
+use Rattle.run.specs.Samples.{hasRoom, putAll}
 use Rattle.gauss_jackson.specs.Answers.{stepEnded}
 use Rattle.gauss_jackson.proofs.turns.end_step.Statement.{statement}
 use Rattle.gauss_jackson.proofs.Sampling.{unwanted, no-room, stored}
@@ -17,7 +17,7 @@ unfolding stepEnded putAll
 returns-2 c = no-room _ _ _ _ _ _ (c .before .before .before .before .if1 .left) (sym (c .before .before .has-room .ensures) ∙ not-true _ (c .before .if2 .taken)) (c .end .ensures)
 
 store-requires : tie.Need-store-requires
-unfolding fits
+unfolding hasRoom
 store-requires c κs = leb-true _ _ (sym (c .before .before .before .has-room .ensures) ∙ not-false _ (c .before .before .if2 .left))
 
 returns-3 : tie.Need-returns-3

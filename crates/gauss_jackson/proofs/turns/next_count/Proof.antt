@@ -1,11 +1,11 @@
--- `turns::next_count` is `counted`.
+-- `turns::next_count` is `nextCount`.
 use borrow.Author.Needs.{needs}
-use Rattle.gauss_jackson.specs.Answers.{counted}
+use Rattle.gauss_jackson.specs.Answers.{nextCount}
 use Rattle.gauss_jackson.proofs.turns.next_count.Statement.{statement}
 use Rattle.gauss_jackson.proofs.turns.next_count.Tie as tie
 
 returns : tie.Need-returns
-unfolding counted
+unfolding nextCount
 returns c = simp (c .before .wrapping-add-u16 .ensures)
 
 pub next-count-spec : {M : Type 1} → statement M

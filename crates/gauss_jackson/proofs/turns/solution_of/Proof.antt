@@ -1,11 +1,11 @@
--- `turns::solution_of` is `solution`.
+-- `turns::solution_of` is `solutionOf`.
 use mathlib.Core.Path.{refl}
-use Rattle.gauss_jackson.specs.Answers.{solution}
+use Rattle.gauss_jackson.specs.Answers.{solutionOf}
 use Rattle.gauss_jackson.proofs.turns.solution_of.Statement.{statement}
 use Rattle.gauss_jackson.proofs.turns.solution_of.Tie as tie
 
 returns : tie.Need-returns
-unfolding solution
+unfolding solutionOf
 returns c = refl
 
 pub solution-of-spec : {M : Type 1} → statement M
