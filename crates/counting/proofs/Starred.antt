@@ -12,7 +12,8 @@ use Rattle.triple.specs.Size.{absolute}
 use Rattle.startup.specs.Points.{offset, timeAt}
 use Rattle.run.specs.declared.Settings.{Settings}
 use Rattle.run.specs.declared.Plan.{Plan}
-use Rattle.run.specs.Plan.{areWithinLimits, directionOf, planOf, isTooNear}
+use Rattle.run.specs.Plan.{directionOf, planOf, isTooNear}
+use Rattle.run.specs.Limits.{areWithinLimits}
 use Rattle.run.specs.Formulas.{leftAt, isDue, isTail}
 use Rattle.rules.specs.Rules.{integrate}
 use Rattle.rules.specs.Asked.{clock}

@@ -5,7 +5,8 @@ use mathlib.Core.List.{[]}
 use lib.Ieee.{Float}
 use Rattle.triple.specs.declared.Triple.{Triple}
 use Rattle.run.specs.declared.Settings.{Settings}
-use Rattle.run.specs.Plan.{areWithinLimits, planOf, isTooNear}
+use Rattle.run.specs.Plan.{planOf, isTooNear}
+use Rattle.run.specs.Limits.{areWithinLimits}
 use Rattle.rules.specs.Rules.{integrate}
 use Rattle.rules.specs.Walk.{refused, over, Stop, settle, begin}
 

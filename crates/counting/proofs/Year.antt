@@ -7,7 +7,7 @@ use lib.IntN.{pos}
 use lib.Ieee.{Float, binary64, ofInt}
 use Rattle.triple.specs.Arithmetic.{nought}
 use Rattle.run.specs.declared.Settings.{Settings}
-use Rattle.run.specs.Plan.{areWithinLimits}
+use Rattle.run.specs.Limits.{areWithinLimits}
 use Rattle.counting.specs.Counting.{spanOf, stepsFor, tailFor, plainFor, tailAnswersFor, mostFor, Bounds}
 
 abbrev year : Settings

@@ -9,7 +9,8 @@ use lib.Ieee.{Float, nan, inf, fin, binary64, ofInt, eq, isNan}
 use Rattle.triple.specs.declared.Triple.{Triple}
 use Rattle.triple.specs.Arithmetic.{nought}
 use Rattle.run.specs.declared.Settings.{Settings}
-use Rattle.run.specs.Plan.{areWithinLimits, planOf}
+use Rattle.run.specs.Plan.{planOf}
+use Rattle.run.specs.Limits.{areWithinLimits}
 use Rattle.rules.specs.Rules.{integrate}
 use Rattle.rules.specs.Walk.{refused, settle, begin}
 use Rattle.counting.specs.Paths.{Claims, Always}

@@ -20,7 +20,8 @@ use Rattle.run.specs.declared.Run.{Run}
 use Rattle.run.specs.declared.waiting.Waiting.{Waiting}
 use Rattle.run.specs.declared.waiting.Waiting.the-variants.{Step}
 use Rattle.run.specs.Waiting.{waitsAt}
-use Rattle.run.specs.Counting.{isSound, Ready}
+use Rattle.run.specs.Sound.{isSound}
+use Rattle.run.specs.Ready.{Ready}
 use Rattle.run.specs.Formulas.{isDue, isTail, isAtRest, trackOn}
 use Rattle.run.specs.Moves.{tried, arrived, committed, predicted}
 use Rattle.run.proofs.Counts.{both, ready}

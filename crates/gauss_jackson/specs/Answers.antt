@@ -30,13 +30,14 @@ use Rattle.run.specs.declared.waiting.Stage.{Stage}
 use Rattle.run.specs.declared.waiting.Stage.the-variants.{First, Second, Third, Fourth}
 use Rattle.run.specs.declared.waiting.Waiting.{Waiting}
 use Rattle.run.specs.declared.waiting.Waiting.the-variants.{Epoch, Forward, Backward, Survey, Pass, Step, Tail, TailSample, Ended, Unknown}
-use Rattle.run.specs.Plan.{areWithinLimits, planOf, isTooNear}
+use Rattle.run.specs.Plan.{planOf, isTooNear}
+use Rattle.run.specs.Limits.{areWithinLimits}
 use Rattle.run.specs.Formulas.{isDue, isTail, isAtRest}
 use Rattle.run.specs.Waiting.{markAt, waitsAt, nextPoint}
 use Rattle.run.specs.Questions.{questionAt}
 use Rattle.run.specs.Moves.{freshBody, surveyed, kept, movedOn, movedBack, passBegun, renewed, passMade, launched, predicted, tried, committed, endOfTail}
 use Rattle.run.specs.Samples.{hasRoom, putAll, startSamples, stepSample, lastSample}
-use Rattle.run.specs.Counting.{isSound}
+use Rattle.run.specs.Sound.{isSound}
 
 -- "Numbers start at 0 and rise by one for each accepted answer; after 65,535 the next question is numbered 0."
 unfoldable pub nextCount : Count → Count

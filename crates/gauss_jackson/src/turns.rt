@@ -2,7 +2,7 @@
 ghost use mathlib.Core.Path.{_≡_};
 ghost use Prim.Native.Nat.{_<_, _≤_};
 ghost use Rattle.run.specs.Moves.{freshBody};
-ghost use Rattle.run.specs.Counting.{Ready};
+ghost use Rattle.run.specs.Ready.{Ready};
 ghost use Rattle.gauss_jackson.specs.Answers.{nextCount, noPlan, endedRun, ending, questionOf, asking, solutionOf, onward, startupEnded, stepEnded, passesOn, passEnded, forwardTaken, backwardTaken, surveyTaken, passTaken, stepTaken, tailTaken, lastTaken, answeredAt};
 use crate::Answered;
 use crate::Outcome;

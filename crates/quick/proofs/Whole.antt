@@ -22,11 +22,12 @@ use Rattle.run.specs.declared.Body.{Body}
 use Rattle.run.specs.declared.Run.{Run}
 use Rattle.run.specs.declared.waiting.Waiting.{Waiting}
 use Rattle.run.specs.declared.waiting.Waiting.the-variants.{Step}
-use Rattle.run.specs.Plan.{areWithinLimits}
+use Rattle.run.specs.Limits.{areWithinLimits}
 use Rattle.run.specs.Formulas.{isDue, isTail, isAtRest, trackOn}
 use Rattle.run.specs.Waiting.{markAt, waitsAt, waitingAt}
 use Rattle.run.specs.Moves.{tried, committed, arrived, predicted}
-use Rattle.run.specs.Counting.{isStartedUp, stepCounts, hasCounts, isSound, Small}
+use Rattle.run.specs.Sound.{isStartedUp, stepCounts, hasCounts, isSound}
+use Rattle.run.specs.Ready.{Small}
 use Rattle.run.specs.Samples.{hasRoom, putAll, stepSample}
 use Rattle.run.proofs.Counts.{both, few, below, to-small}
 use Rattle.gauss_jackson.specs.declared.Answered.{Answered}

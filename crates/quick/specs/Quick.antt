@@ -17,11 +17,11 @@ use Rattle.run.specs.declared.Track.{Track}
 use Rattle.run.specs.declared.Trial.{Trial}
 use Rattle.run.specs.declared.Body.{Body}
 use Rattle.run.specs.declared.waiting.Waiting.the-variants.{Step}
-use Rattle.run.specs.Plan.{areWithinLimits}
+use Rattle.run.specs.Limits.{areWithinLimits}
 use Rattle.run.specs.Formulas.{isDue, isTail, isAtRest}
 use Rattle.run.specs.Waiting.{markAt}
 use Rattle.run.specs.Moves.{freshBody}
-use Rattle.run.specs.Counting.{stepCounts}
+use Rattle.run.specs.Sound.{stepCounts}
 use Rattle.run.specs.Samples.{hasRoom, put}
 use Rattle.gauss_jackson.specs.Answers.{nextCount}
 use Rattle.quick.specs.declared.Look.{Look}

@@ -15,7 +15,8 @@ use triple::Triple;
 use triple::nine;
 ghost use mathlib.Core.Path.{_≡_};
 ghost use Prim.Native.Nat.{_≤_, _<_};
-ghost use Rattle.run.specs.Counting.{isStartedUp, stepCounts, Small};
+ghost use Rattle.run.specs.Sound.{isStartedUp, stepCounts};
+ghost use Rattle.run.specs.Ready.{Small};
 ghost use Rattle.gauss_jackson.specs.Answers.{nextCount};
 ghost use Rattle.quick.specs.Quick.{shell, openStep, endOf, isMade, hasPlace, follows, looked, triedBy, trackBy, keptSample, steppedBy};
 

@@ -18,12 +18,12 @@ use Rattle.run.specs.declared.Body.{Body}
 use Rattle.run.specs.declared.waiting.Stage.the-variants.{First}
 use Rattle.run.specs.declared.waiting.Waiting.{Waiting}
 use Rattle.run.specs.declared.waiting.Waiting.the-variants.{Pass, Step, Tail}
-use Rattle.run.specs.Plan.{areWithinLimits}
+use Rattle.run.specs.Limits.{areWithinLimits}
 use Rattle.run.specs.Formulas.{isDue, isTail, startTrack}
 use Rattle.run.specs.Waiting.{stageFrom, waitingAt, waitsAt}
 use Rattle.run.specs.Moves.{freshBody, passBegun, passMade, launched, predicted}
 use Rattle.run.specs.Samples.{hasRoom, putAll, startSamples, stepSample}
-use Rattle.run.specs.Counting.{hasCounts, isSound}
+use Rattle.run.specs.Sound.{hasCounts, isSound}
 use Rattle.run.proofs.Decoding.{read}
 use Rattle.run.proofs.Counts.{Counts, SteppingBody, sound-at}
 use Rattle.run.proofs.Moving.{Swept, pass-first, startup-done, step-first, tail-first}

@@ -17,13 +17,13 @@ use Rattle.run.specs.declared.Run.{Run}
 use Rattle.run.specs.declared.waiting.Stage.the-variants.{First, Second, Third, Fourth}
 use Rattle.run.specs.declared.waiting.Waiting.{Waiting}
 use Rattle.run.specs.declared.waiting.Waiting.the-variants.{Epoch, Forward, Backward, Survey, Pass, Step, Tail, TailSample, Ended, Unknown}
-use Rattle.run.specs.Plan.{areWithinLimits}
+use Rattle.run.specs.Limits.{areWithinLimits}
 use Rattle.run.specs.Formulas.{isAtRest, stepPoint, finalPoint}
 use Rattle.run.specs.Waiting.{waitsAt, nextPoint}
 use Rattle.run.specs.Questions.{endPoint, lastPoint, questionAt}
 use Rattle.run.specs.Moves.{surveyed, kept, movedOn, movedBack, renewed, tried, committed, endOfTail}
 use Rattle.run.specs.Samples.{lastSample}
-use Rattle.run.specs.Counting.{isSound}
+use Rattle.run.specs.Sound.{isSound}
 use Rattle.run.proofs.Counts.{Counts, Facts, to-facts}
 use Rattle.run.proofs.Moving.{epoch-on, forward-second, forward-third, forward-fourth, forward-on, forward-last, backward-second, backward-third, backward-fourth, backward-on, backward-last, survey-on, survey-last, pass-on, pass-last, step-again, step-made, tail-second, tail-third, tail-fourth, tail-last}
 use Rattle.gauss_jackson.specs.Answers.{quiet, nextCount, ending, asking, solutionOf, stepEnded, passesOn, passEnded, forwardTaken, backwardTaken, surveyTaken, passTaken, stepTaken, tailTaken, lastTaken, answeredAt, refusing, answered}

@@ -15,7 +15,8 @@ use Rattle.run.specs.declared.Settings.{Settings}
 use Rattle.run.specs.declared.Plan.{Plan}
 use Rattle.run.specs.declared.Run.{Run}
 use Rattle.run.specs.declared.waiting.Waiting.the-variants.{Epoch}
-use Rattle.run.specs.Plan.{areWithinLimits, planOf, isTooNear}
+use Rattle.run.specs.Plan.{planOf, isTooNear}
+use Rattle.run.specs.Limits.{areWithinLimits}
 use Rattle.run.specs.Questions.{epochPoint, questionAt}
 use Rattle.run.specs.Moves.{freshBody, surveyed}
 use Rattle.gauss_jackson.specs.declared.Answered.{Answered}

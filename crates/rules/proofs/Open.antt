@@ -7,15 +7,14 @@ use lib.Dec.{eqb}
 use lib.ListN.{length}
 use lib.Ieee.{Float}
 use Rattle.run.specs.declared.Run.{Run}
-use Rattle.run.specs.Plan.{areWithinLimits, planOf, isTooNear}
-use Rattle.run.specs.Questions.{questionAt}
+use Rattle.run.specs.Plan.{planOf, isTooNear}
+use Rattle.run.specs.Limits.{areWithinLimits}
 use Rattle.run.specs.Samples.{hasRoom, putAll}
-use Rattle.run.specs.Counting.{isSound}
+use Rattle.run.specs.Sound.{isSound}
 use Rattle.gauss_jackson.specs.declared.Outcome.{Outcome}
 use Rattle.gauss_jackson.specs.Answers.{answered, started}
 use Rattle.rules.specs.Rules.{Course, asks, stores, ends, exceeds, integrate}
-use Rattle.rules.specs.Walk.{Said, refused, finished, told, Call, Line, open-at, over, Stop, settle, turn, begin}
-use Rattle.rules.specs.Walk.{questionAt as questionSaid}
+use Rattle.rules.specs.Walk.{Said, question, refused, finished, told, Call, Line, open-at, over, Stop, settle, turn, begin}
 use Rattle.rules.specs.Follows.{NeverSeven}
 use Rattle.rules.proofs.Rest.{rest, opened, lineOf, seen}
 use Rattle.rules.proofs.Calls.{call-is}
@@ -26,7 +25,7 @@ isOpen (open-at n e q k) = true
 isOpen over = false
 
 isAsked : Said → Bool
-isAsked (questionSaid n q) = true
+isAsked (question n q) = true
 isAsked (finished t y e steps startups) = false
 isAsked (refused n) = false
 

@@ -20,7 +20,7 @@ use Rattle.run.specs.Waiting.{waitsAt}
 use Rattle.run.specs.Questions.{questionAt}
 use Rattle.run.specs.Moves.{surveyed, kept, movedOn, movedBack, renewed, committed, endOfTail}
 use Rattle.run.specs.Samples.{stepSample, lastSample}
-use Rattle.run.specs.Counting.{isSound}
+use Rattle.run.specs.Sound.{isSound}
 use Rattle.gauss_jackson.specs.Answers.{Turn}
 use Rattle.rules.specs.Rules.{Course, asks, stores, ends, exceeds, forward, backward, others, survey, renew, passes, sampled, tail, correct, step, march, fly}
 use Rattle.rules.specs.Walk.{told, Line, open-at, over, Stop}

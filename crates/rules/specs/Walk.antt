@@ -12,7 +12,8 @@ use Rattle.triple.specs.declared.Point.{Point}
 use Rattle.refusals.specs.Numbers.{numberOf}
 use Rattle.refusals.specs.declared.Refusal.the-variants.{StepNotFinite, MaxStepsExceeded, Setting, SampleRoom, NoQuestion, NotThatQuestion}
 use Rattle.run.specs.declared.Settings.{Settings}
-use Rattle.run.specs.Plan.{areWithinLimits, planOf, isTooNear}
+use Rattle.run.specs.Plan.{planOf, isTooNear}
+use Rattle.run.specs.Limits.{areWithinLimits}
 use Rattle.run.specs.Samples.{hasRoom, putAll}
 use Rattle.gauss_jackson.specs.declared.Outcome.{Outcome}
 use Rattle.gauss_jackson.specs.declared.Outcome.the-variants.{Ask, Done, Refused}

@@ -2,7 +2,7 @@
 use mathlib.Core.Path.{_≡_, refl, sym, subst, _∙_}
 use mathlib.Core.Logic.{_≢_}
 use Prim.Native.Nat.{ℕ, _+_, _-_, _*_, _%_, _≤_, _<_}
-use native.Mathlib.Nat.{le-trans, mul-le-mul}
+use native.Mathlib.Nat.{mul-le-mul}
 use native.Mathlib.Omega.{arith}
 use mathlib.Core.Bool.{Bool, true, false, not, _&&_, cond}
 use lib.Dec.{eqb, ltb, leb}
@@ -15,9 +15,10 @@ use Rattle.run.specs.declared.waiting.Stage.{Stage}
 use Rattle.run.specs.declared.waiting.Stage.the-variants.{First, Second, Third, Fourth}
 use Rattle.run.specs.declared.waiting.Waiting.{Waiting}
 use Rattle.run.specs.declared.waiting.Waiting.the-variants.{Epoch, Forward, Backward, Survey, Pass, Step, Tail, TailSample, Ended, Unknown}
-use Rattle.run.specs.Plan.{areWithinLimits}
+use Rattle.run.specs.Limits.{maxPasses, maxSteps, numbering, ample, areWithinLimits, wantsSamples}
 use Rattle.run.specs.Waiting.{stageNumber, markAt, waitsAt}
-use Rattle.run.specs.Counting.{isIdle, forwardCounts, backwardCounts, rankOf, pointCounts, passCounts, isStartedUp, stepCounts, hasCounts, isSound, Small, Ready}
+use Rattle.run.specs.Sound.{isIdle, forwardCounts, backwardCounts, rankOf, pointCounts, passCounts, isStartedUp, stepCounts, hasCounts, isSound}
+use Rattle.run.specs.Ready.{Small, Ready}
 use Rattle.run.proofs.Decoding.{read}
 
 -- ---- tests
@@ -74,7 +75,7 @@ Counts (Survey i) e b = Point i 33 e × IdleBody b
 Counts (Pass i) e b = (b .«startup_iters» < b .plan .settings .«max_startup_iters») × (b .track .steps ≡ 0) × Point i (41 + 8 * b .«startup_iters») e
 Counts (Step c) e b = (c ≤ b .plan .settings .«max_corrector_iters») × (b .track .steps < b .plan .settings .«max_steps») × SteppingBody c e b
 Counts (Tail s) e b = (b .track .steps < b .plan .settings .«max_steps») × SteppingBody (stageNumber s) e b
-Counts TailSample e b = (b .plan .settings .samples ≡ true) × (b .track .steps < b .plan .settings .«max_steps») × SteppingBody 4 e b
+Counts TailSample e b = (wantsSamples (b .plan .settings) ≡ true) × (b .track .steps < b .plan .settings .«max_steps») × SteppingBody 4 e b
 Counts Ended e b = ⊥
 Counts Unknown e b = ⊥
 
@@ -156,19 +157,23 @@ from-counts (Survey i) e b c = rw (from-point i 33 e (c .0), from-idle b (c .1))
 from-counts (Pass i) e b c = rw (lt-ltb _ _ (c .0), eq-eqb _ _ (c .1), from-point i _ e (c .2))
 from-counts (Step n) e b c = rw (le-leb _ _ (c .0), from-below n e b (c .1) (c .2))
 from-counts (Tail s) e b c = from-below (stageNumber s) e b (c .0) (c .1)
-from-counts TailSample e b c = joined (b .plan .settings .samples) (stepCounts 4 e b) (c .0) (from-below 4 e b (c .1) (c .2))
+from-counts TailSample e b c = joined (wantsSamples (b .plan .settings)) (stepCounts 4 e b) (c .0) (from-below 4 e b (c .1) (c .2))
 from-counts Ended e b c = absurd c
 from-counts Unknown e b c = absurd c
 
 -- ---- a sound run
 pub record Facts (run : Run) : Type 0 where
   pub limited : areWithinLimits (run .body .plan .settings) ≡ true
-  pub numbered : run .mark .count .number ≡ run .mark .count .evals % 65536
+  pub numbered : run .mark .count .number ≡ run .mark .count .evals % numbering
   pub counted : Counts (waitsAt (run .mark)) (run .mark .count .evals) (run .body)
 
 pub to-small : (b : Body) → areWithinLimits (b .plan .settings) ≡ true → Small b
 unfolding areWithinLimits
-to-small b t = let h = both _ _ t in let k = both _ _ (h .0) in record { startups = leb-true _ _ (k .0); passes = leb-true _ _ (k .1); steps = leb-true _ _ (h .1) }
+to-small b t =
+    let h = both _ _ t in
+    let f = both _ _ (h .0) in
+    let k = both _ _ (f .0) in
+    record { startups = leb-true _ _ (k .0); passes = leb-true _ _ (k .1); steps = leb-true _ _ (h .1) }
 
 pub to-facts : (run : Run) → isSound run ≡ true → Facts run
 unfolding isSound
@@ -178,7 +183,7 @@ to-facts run t =
     record { limited = k .0; numbered = eqb-true _ _ (k .1); counted = to-counts (waitsAt (run .mark)) (run .mark .count .evals) (run .body) (h .1) }
 
 -- a run that has just been marked at a waiting point
-pub sound-at : (w : Waiting) (c : Count) (b : Body) → areWithinLimits (b .plan .settings) ≡ true → c .number ≡ c .evals % 65536 → Counts w (c .evals) b
+pub sound-at : (w : Waiting) (c : Count) (b : Body) → areWithinLimits (b .plan .settings) ≡ true → c .number ≡ c .evals % numbering → Counts w (c .evals) b
     → isSound (record { mark = markAt w c; body = b }) ≡ true
 unfolding isSound
 sound-at w c b l n h = rw (l, eq-eqb _ _ n, read w c, from-counts w (c .evals) b h)
@@ -193,10 +198,10 @@ rank-le i = go (ltb i 4)
     go false = omega arith
 
 -- the answers of all steps
-pub few : (b : Body) → b .track .steps < b .plan .settings .«max_steps» → Small b → (b .track .steps - 4) * (1 + b .plan .settings .«max_corrector_iters») ≤ 101_000_000
-few b m s = le-trans (mul-le-mul {n₂ = 1_000_000} {m₂ = 101} (omega (arith, s .steps)) (omega (arith, s .passes))) (omega arith)
+pub few : (b : Body) → b .track .steps < b .plan .settings .«max_steps» → Small b → (b .track .steps - 4) * (1 + b .plan .settings .«max_corrector_iters») ≤ maxSteps * (1 + maxPasses)
+few b m s = mul-le-mul {n₂ = maxSteps} {m₂ = 1 + maxPasses} (omega (arith, s .steps)) (omega (arith, s .passes))
 
-answers-small : (w : Waiting) (e : ℕ) (b : Body) → Small b → Counts w e b → e < 1_000_000_000
+answers-small : (w : Waiting) (e : ℕ) (b : Body) → Small b → Counts w e b → e < ample
 answers-small Epoch e b s c = omega arith
 answers-small (Forward i First) e b s c = omega arith
 answers-small (Forward i Second) e b s c = omega arith
@@ -217,7 +222,7 @@ answers-small TailSample e b s c = omega (arith, few b (c .1) s, c .2 .started .
 answers-small Ended e b s c = absurd c
 answers-small Unknown e b s c = absurd c
 
-pub evals-small : (run : Run) → isSound run ≡ true → run .mark .count .evals < 1_000_000_000
+pub evals-small : (run : Run) → isSound run ≡ true → run .mark .count .evals < ample
 evals-small run t = let f = to-facts run t in answers-small (waitsAt (run .mark)) (run .mark .count .evals) (run .body) (to-small (run .body) (f .limited)) (f .counted)
 
 ready-at : (w : Waiting) (e : ℕ) (b : Body) → Small b → Counts w e b → Ready w b

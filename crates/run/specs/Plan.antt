@@ -1,7 +1,6 @@
--- 01, "Numbered answers" (limits and defaults) and "Startup" (the step): what a start makes of its arguments.
+-- 01, "Numbered answers" (defaults) and "Startup" (the step): what a start makes of its arguments.
 use Prim.Native.Nat.{ℕ, _^_}
-use mathlib.Core.Bool.{Bool, false, _&&_, _||_, cond}
-use lib.Dec.{leb}
+use mathlib.Core.Bool.{Bool, false, _||_, cond}
 use lib.IntN.{pos}
 use lib.Ieee.{Float, binary64, round, neg, sub, mul, div, lt, le, eq, ofInt}
 use Rattle.triple.specs.Arithmetic.{nought}
@@ -23,12 +22,8 @@ defaultSettings =
       «max_corrector_iters» = 2;
       «max_startup_iters» = 12;
       «max_steps» = 1_000_000;
-      samples = false;
+      samples = 0;
     }
-
--- "Limits: max_startup_iters and max_corrector_iters 0 to 100, max_steps 0 to 1,000,000."
-unfoldable pub areWithinLimits : Settings → Bool
-areWithinLimits s = leb (s .«max_startup_iters») 100 && leb (s .«max_corrector_iters») 100 && leb (s .«max_steps») 1_000_000
 
 -- "dir = 1 if tf >= t0, else -1 (a NaN gives -1)"
 unfoldable pub directionOf : Float → Float → Float

@@ -9,6 +9,7 @@ use Rattle.triple.specs.declared.Triple.{Triple}
 use Rattle.triple.specs.declared.State.{State}
 use Rattle.triple.specs.declared.Sample.{Sample}
 use Rattle.triple.specs.Nine.{at}
+use Rattle.triple.specs.Sampled.{sampleWidth}
 use Rattle.startup.specs.Points.{timeAt}
 use Rattle.startup.specs.declared.Places.{Places}
 use Rattle.run.specs.declared.Plan.{Plan}
@@ -16,15 +17,15 @@ use Rattle.run.specs.declared.Track.{Track}
 
 -- samples n to n + m - 1 all fit in the buffer
 unfoldable pub hasRoom : ℕ → ℕ → List Float → Bool
-hasRoom n m out = leb (10 * (n + m)) (length out)
+hasRoom n m out = leb (sampleWidth * (n + m)) (length out)
 
 unfoldable pub put : ℕ → Sample → List Float → List Float
 put n s out =
     set (set (set (set (set (set (set (set (set (set out
-    (10 * n) (s .t))
-    (10 * n + 1) (s .r .x)) (10 * n + 2) (s .r .y)) (10 * n + 3) (s .r .z))
-    (10 * n + 4) (s .v .x)) (10 * n + 5) (s .v .y)) (10 * n + 6) (s .v .z))
-    (10 * n + 7) (s .a .x)) (10 * n + 8) (s .a .y)) (10 * n + 9) (s .a .z)
+    (sampleWidth * n) (s .t))
+    (sampleWidth * n + 1) (s .r .x)) (sampleWidth * n + 2) (s .r .y)) (sampleWidth * n + 3) (s .r .z))
+    (sampleWidth * n + 4) (s .v .x)) (sampleWidth * n + 5) (s .v .y)) (sampleWidth * n + 6) (s .v .z))
+    (sampleWidth * n + 7) (s .a .x)) (sampleWidth * n + 8) (s .a .y)) (sampleWidth * n + 9) (s .a .z)
 
 -- a row of samples, the first of them sample n
 unfoldable pub putAll : ℕ → List Sample → List Float → List Float

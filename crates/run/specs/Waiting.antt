@@ -1,6 +1,6 @@
 -- The waiting point: plain numbers in the run, a case everywhere else. (01: "each place that asks becomes a named waiting point of the run".)
 use Prim.Native.Nat.{ℕ, zero, suc, _+_}
-use mathlib.Core.Bool.{cond}
+use mathlib.Core.Bool.{Bool, true, false, cond}
 use lib.Dec.{leb, eqb}
 use Rattle.run.specs.declared.Mark.{Mark}
 use Rattle.run.specs.declared.Count.{Count}
@@ -14,6 +14,19 @@ stageNumber First = 0
 stageNumber Second = 1
 stageNumber Third = 2
 stageNumber Fourth = 3
+
+-- an RK4 step asks four times
+abbrev pub isLast : Stage → Bool
+isLast First = false
+isLast Second = false
+isLast Third = false
+isLast Fourth = true
+
+abbrev pub stageAfter : Stage → Stage
+stageAfter First = Second
+stageAfter Second = Third
+stageAfter Third = Fourth
+stageAfter Fourth = Fourth
 
 abbrev pub atNumber : Waiting → ℕ
 atNumber Ended = 0

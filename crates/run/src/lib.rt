@@ -23,7 +23,8 @@ pub struct Settings {
     pub max_corrector_iters: u64,
     pub max_startup_iters: u64,
     pub max_steps: u64,
-    pub samples: bool,
+    // 0 or 1; any other number is over its limit, so that no byte that a caller lends leans on its care.
+    pub samples: u8,
 }
 
 // Where the run waits, and the mathematics.

@@ -1,13 +1,17 @@
 // Whether a question of a run is open: neither ended nor made up (01, answer 7).
 ghost use mathlib.Core.Path.{_≡_};
-ghost use Prim.Native.Nat.{_≤_};
-ghost use Rattle.run.specs.Counting.{isIdle, rankOf, forwardCounts, backwardCounts, pointCounts, passCounts, isStartedUp, stepCounts, hasCounts, isSound, Small};
+ghost use Prim.Native.Nat.{_<_};
+ghost use Rattle.run.specs.Sound.{isIdle, rankOf, forwardCounts, backwardCounts, pointCounts, passCounts, isStartedUp, stepCounts, hasCounts, isSound};
+ghost use Rattle.run.specs.Limits.{ample};
+ghost use Rattle.run.specs.Ready.{Small};
 use crate::Body;
 use crate::Run;
 use crate::limits;
 use crate::waiting;
 use crate::waiting::Stage;
 use crate::waiting::Waiting;
+
+const NUMBERING: u64 = 65536;
 
 pub fn is_sound(run: Run) -> bool
     ensures { λ r. ⌜ r ≡ isSound run ⌝ }
@@ -18,7 +22,7 @@ pub fn is_sound(run: Run) -> bool
     if !limits::are_within_limits(b.plan.settings) {
         return false;
     }
-    if (count.number as u64) != count.evals % 65536 {
+    if (count.number as u64) != count.evals % NUMBERING {
         return false;
     }
     let w = waiting::waits_at(mark);
@@ -68,7 +72,7 @@ fn rank_of(i: u8) -> u64
 
 // e answers, of which `before` came before the points were asked.
 fn point_counts(i: u8, before: u64, e: u64) -> bool
-    requires { ⌜ before ≤ 10000 ⌝ }
+    requires { ⌜ before < ample ⌝ }
     ensures { λ r. ⌜ r ≡ pointCounts i before e ⌝ }
 {
     if i > 8 {
@@ -108,7 +112,7 @@ fn is_started_up(b: Body) -> bool
 
 // e answers at a step, of which k belong to the open step.
 fn step_counts(k: u64, e: u64, b: Body) -> bool
-    requires { ⌜ Small b × (k ≤ 1000) ⌝ }
+    requires { ⌜ Small b × (k < ample) ⌝ }
     ensures { λ r. ⌜ r ≡ stepCounts k e b ⌝ }
 {
     let n = b.track.steps;
@@ -157,7 +161,7 @@ fn has_counts(w: Waiting, e: u64, b: Body) -> bool
             step_counts(c as u64, e, b)
         }
         Waiting::Tail(s) => step_counts(waiting::stage_number(s) as u64, e, b),
-        Waiting::TailSample => if b.plan.settings.samples {
+        Waiting::TailSample => if limits::wants_samples(b.plan.settings) {
             step_counts(4, e, b)
         } else {
             false

@@ -1,6 +1,6 @@
 // The waiting point: plain numbers in the run, one of these cases everywhere else.
 ghost use mathlib.Core.Path.{_≡_};
-ghost use Rattle.run.specs.Waiting.{stageNumber, atNumber, indexNumber, stageAt, markAt, stageFrom, waitsAt};
+ghost use Rattle.run.specs.Waiting.{stageNumber, isLast, stageAfter, atNumber, indexNumber, stageAt, markAt, stageFrom, waitsAt};
 use crate::Count;
 use crate::Mark;
 
@@ -43,6 +43,29 @@ pub fn stage_number(s: Stage) -> u8
         Stage::Second => 1,
         Stage::Third => 2,
         Stage::Fourth => 3,
+    }
+}
+
+// Whether its answer ends the RK4 step.
+pub fn is_last(s: Stage) -> bool
+    ensures { λ b. ⌜ b ≡ isLast s ⌝ }
+{
+    match s {
+        Stage::First => false,
+        Stage::Second => false,
+        Stage::Third => false,
+        Stage::Fourth => true,
+    }
+}
+
+pub fn stage_after(s: Stage) -> Stage
+    ensures { λ n. ⌜ n ≡ stageAfter s ⌝ }
+{
+    match s {
+        Stage::First => Stage::Second,
+        Stage::Second => Stage::Third,
+        Stage::Third => Stage::Fourth,
+        Stage::Fourth => Stage::Fourth,
     }
 }
 

@@ -3,7 +3,7 @@ use mathlib.Core.Path.{sym, _∙_}
 use native.Mathlib.Omega.{arith}
 use borrow.Author.Needs.{needs}
 use borrow.Author.Tests.{not-true, not-false, lt-ltb, le-ltb, le-leb, lt-leb}
-use Rattle.run.specs.Counting.{stepCounts}
+use Rattle.run.specs.Sound.{stepCounts}
 use Rattle.quick.proofs.is_counted.Statement.{statement}
 use Rattle.run.proofs.Counts.{to-started}
 use Rattle.quick.proofs.Whole.{few-by}

@@ -3,7 +3,7 @@ use mathlib.Core.Path.{_≡_, refl, sym, ap, _∙_}
 use native.Mathlib.Omega.{arith}
 use borrow.Author.Needs.{needs}
 use borrow.Author.Tests.{not-true, not-false, lt-ltb, le-ltb, le-leb, lt-leb, eq-eqb, ne-eqb}
-use Rattle.run.specs.Counting.{isStartedUp}
+use Rattle.run.specs.Sound.{isStartedUp}
 use Rattle.quick.proofs.is_started_up.Statement.{statement}
 use Rattle.quick.proofs.is_started_up.Tie as tie
 

@@ -1,7 +1,7 @@
 -- `take` is `answeredAt`, a waiting point each.
 use mathlib.Core.Path.{refl, subst}
 use borrow.Author.Needs.{needs}
-use Rattle.run.specs.Counting.{Ready}
+use Rattle.run.specs.Ready.{Ready}
 use Rattle.gauss_jackson.specs.Answers.{answeredAt}
 use Rattle.run.specs.declared.waiting.Waiting.{Waiting}
 use Rattle.gauss_jackson.proofs.turns.take.Statement.{statement}

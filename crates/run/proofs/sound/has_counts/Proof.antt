@@ -2,7 +2,7 @@
 use mathlib.Core.Path.{sym, _∙_}
 use borrow.Author.Needs.{needs}
 use borrow.Author.Tests.{le-leb, lt-leb, eq-eqb, ne-eqb}
-use Rattle.run.specs.Counting.{hasCounts}
+use Rattle.run.specs.Sound.{hasCounts}
 use Rattle.run.proofs.sound.has_counts.Statement.{statement}
 use Rattle.run.proofs.Counts.{given}
 use Rattle.run.proofs.sound.has_counts.Tie as tie
@@ -57,11 +57,12 @@ returns-12 c = rw (c .before .before .before .w6 .given .1, ← c .before .stage
 
 returns-13 : tie.Need-returns-13
 unfolding hasCounts
-returns-13 c = rw (c .before .before .enum-told2 .given .1) (given _ _ _ (c .before .if6 .taken) (c .step-counts3 .ensures))
+returns-13 c =
+    rw (c .before .before .before .enum-told2 .given .1) (given _ _ _ (sym (c .before .before .wants-samples .ensures) ∙ c .before .if6 .taken) (c .step-counts3 .ensures))
 
 returns-14 : tie.Need-returns-14
 unfolding hasCounts
-returns-14 c = rw (c .before .enum-told2 .given .1, c .if6 .left)
+returns-14 c = rw (c .before .before .enum-told2 .given .1, sym (c .before .wants-samples .ensures) ∙ c .if6 .left)
 
 returns-15 : tie.Need-returns-15
 unfolding hasCounts
@@ -98,6 +99,7 @@ has-counts-spec =
     (λ c. search needs)
     (λ c κs. search needs)
     (λ c. search needs)
+    (λ c κs. search needs)
     (λ c κs. search needs)
     (λ c. search needs)
     (λ c. search needs)

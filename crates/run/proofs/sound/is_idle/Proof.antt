@@ -1,6 +1,6 @@
 -- `is_idle` is `isIdle`.
 use borrow.Author.Tests.{eq-eqb, ne-eqb}
-use Rattle.run.specs.Counting.{isIdle}
+use Rattle.run.specs.Sound.{isIdle}
 use Rattle.run.proofs.sound.is_idle.Statement.{statement}
 use Rattle.run.proofs.sound.is_idle.Tie as tie
 

@@ -2,7 +2,7 @@
 use mathlib.Core.Path.{sym, _∙_}
 use borrow.Author.Needs.{needs}
 use borrow.Author.Tests.{not-true, not-false, eq-eqb, ne-eqb}
-use Rattle.run.specs.Counting.{isSound}
+use Rattle.run.specs.Sound.{isSound}
 use Rattle.run.proofs.sound.is_sound.Statement.{statement}
 use Rattle.run.proofs.Counts.{to-small}
 use Rattle.run.proofs.sound.is_sound.Tie as tie

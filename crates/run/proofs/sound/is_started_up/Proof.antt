@@ -1,6 +1,6 @@
 -- `is_started_up` is `isStartedUp`.
 use borrow.Author.Tests.{le-leb, lt-leb, eq-eqb, ne-eqb}
-use Rattle.run.specs.Counting.{isStartedUp}
+use Rattle.run.specs.Sound.{isStartedUp}
 use Rattle.run.proofs.sound.is_started_up.Statement.{statement}
 use Rattle.run.proofs.sound.is_started_up.Tie as tie
 

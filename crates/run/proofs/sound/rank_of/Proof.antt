@@ -1,7 +1,7 @@
 -- `rank_of` is `rankOf`.
 use borrow.Author.Needs.{needs}
 use borrow.Author.Tests.{lt-ltb, le-ltb}
-use Rattle.run.specs.Counting.{rankOf}
+use Rattle.run.specs.Sound.{rankOf}
 use Rattle.run.proofs.sound.rank_of.Statement.{statement}
 use Rattle.run.proofs.sound.rank_of.Tie as tie
 

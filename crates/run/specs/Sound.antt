@@ -1,7 +1,7 @@
 -- 01, answer 7: a run "has ended, or is made up: a setting over its limit, a pass, step or answer count outside what the counting below allows
 -- at its waiting point, times and tolerances aside, or a question number that is not the answer count's remainder by 65,536".
 -- e is the count of answers accepted before the open question: 1 at the epoch, 16 in each RK4 half, 8 in the survey, 8 in each startup pass.
-use Prim.Native.Nat.{ℕ, _+_, _-_, _*_, _%_, _≤_, _<_}
+use Prim.Native.Nat.{ℕ, _+_, _-_, _*_, _%_}
 use mathlib.Core.Bool.{Bool, false, not, _&&_, _||_, cond}
 use lib.Dec.{eqb, ltb, leb}
 use Rattle.run.specs.declared.Run.{Run}
@@ -9,7 +9,7 @@ use Rattle.run.specs.declared.Body.{Body}
 use Rattle.run.specs.declared.waiting.Stage.{Stage}
 use Rattle.run.specs.declared.waiting.Waiting.{Waiting}
 use Rattle.run.specs.declared.waiting.Waiting.the-variants.{Epoch, Forward, Backward, Survey, Pass, Step, Tail, TailSample, Ended, Unknown}
-use Rattle.run.specs.Plan.{areWithinLimits}
+use Rattle.run.specs.Limits.{numbering, areWithinLimits, wantsSamples}
 use Rattle.run.specs.Waiting.{stageNumber, waitsAt}
 
 -- no startup pass is made, and no step
@@ -58,31 +58,12 @@ hasCounts (Survey i) e b = pointCounts i 33 e && isIdle b
 hasCounts (Pass i) e b = passCounts i e b
 hasCounts (Step c) e b = leb c (b .plan .settings .«max_corrector_iters») && stepCounts c e b
 hasCounts (Tail s) e b = stepCounts (stageNumber s) e b
-hasCounts TailSample e b = b .plan .settings .samples && stepCounts 4 e b
+hasCounts TailSample e b = wantsSamples (b .plan .settings) && stepCounts 4 e b
 hasCounts Ended e b = false
 hasCounts Unknown e b = false
 
 unfoldable pub isSound : Run → Bool
 isSound run =
     areWithinLimits (run .body .plan .settings)
-    && eqb (run .mark .count .number) (run .mark .count .evals % 65536)
+    && eqb (run .mark .count .number) (run .mark .count .evals % numbering)
     && hasCounts (waitsAt (run .mark)) (run .mark .count .evals) (run .body)
-
--- the settings' limits, as numbers
-pub record Small (b : Body) : Type 0 where
-  pub startups : b .plan .settings .«max_startup_iters» ≤ 100
-  pub passes : b .plan .settings .«max_corrector_iters» ≤ 100
-  pub steps : b .plan .settings .«max_steps» ≤ 1_000_000
-
--- what the code needs of a sound run, so that no index runs out and no count wraps
-abbrev pub Ready : Waiting → Body → Type 0
-Ready Epoch b = Unit {0}
-Ready (Forward i s) b = i < 8
-Ready (Backward i s) b = 0 < i
-Ready (Survey i) b = Unit {0}
-Ready (Pass i) b = b .«startup_iters» ≤ 1000
-Ready (Step c) b = (b .plan .settings .«max_corrector_iters» ≤ 100) × (b .track .steps ≤ 1_000_000_000)
-Ready (Tail s) b = b .track .steps ≤ 1_000_000_000
-Ready TailSample b = b .track .steps ≤ 1_000_000_000
-Ready Ended b = Unit {0}
-Ready Unknown b = Unit {0}
