@@ -1,3 +1,4 @@
 pub mod Decoding
 pub mod Counts
 pub mod Moving
+pub mod Placing

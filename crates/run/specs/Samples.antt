@@ -1,6 +1,6 @@
 -- 01: "A sample is ten f64: t, r, v, a. Sample n takes numbers 10n to 10n+9; nothing else is written."
-use Prim.Native.Nat.{ℕ, _+_, _*_}
-use mathlib.Core.Bool.{Bool}
+use Prim.Native.Nat.{ℕ, _+_, _-_, _*_}
+use mathlib.Core.Bool.{Bool, true, cond}
 use mathlib.Core.List.{List, [], _∷_}
 use lib.Dec.{leb}
 use lib.ListN.{length, set}
@@ -32,6 +32,13 @@ unfoldable pub putAll : ℕ → List Sample → List Float → List Float
 putAll n [] out = out
 putAll n (s ∷ ss) out = putAll (n + 1) ss (put n s out)
 
+-- ---- one sample, where samples are wanted
+unfoldable pub hasPlace : (wanted : Bool) (n room : ℕ) → Bool
+hasPlace wanted n room = cond wanted (leb (sampleWidth * (n + 1)) room) true
+
+unfoldable pub keptSample : (wanted : Bool) → ℕ → Sample → List Float → List Float
+keptSample wanted n s out = cond wanted (cond (hasRoom n 1 out) (put n s out) out) out
+
 -- ---- what is stored, and when
 -- point i of the startup
 unfoldable pub gridSample : Plan → Places → List Triple → ℕ → Sample
@@ -48,3 +55,11 @@ stepSample k a = record { t = k .t; r = k .state .r; v = k .state .v; a = at a 8
 -- after the tail, at tf
 unfoldable pub lastSample : Plan → State → Triple → Sample
 lastSample p y b = record { t = p .tf; r = y .r; v = y .v; a = b }
+
+-- the startup's samples one after the other, where samples are wanted
+unfoldable pub keptPoint : (wanted : Bool) → Plan → Places → List Triple → ℕ → List Float → List Float
+keptPoint wanted p x a i out = keptSample wanted (i - 4) (gridSample p x a i) out
+
+unfoldable pub keptPoints : (wanted : Bool) → Plan → Places → List Triple → List Float → List Float
+keptPoints wanted p x a out =
+    keptPoint wanted p x a 8 (keptPoint wanted p x a 7 (keptPoint wanted p x a 6 (keptPoint wanted p x a 5 (keptPoint wanted p x a 4 out))))

@@ -11,6 +11,7 @@ pub mod formulas;
 pub mod limits;
 pub mod moves;
 pub mod questions;
+pub mod samples;
 pub mod sound;
 pub mod waiting;
 
