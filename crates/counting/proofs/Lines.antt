@@ -15,6 +15,7 @@ use Rattle.triple.specs.declared.State.{State}
 use Rattle.triple.specs.declared.Point.{Point}
 use Rattle.triple.specs.declared.Sample.{Sample}
 use Rattle.triple.specs.Arithmetic.{zeros}
+use Rattle.run.specs.Limits.{numbering}
 use Rattle.run.specs.Samples.{hasRoom, put, putAll}
 use Rattle.rules.specs.Rules.{Course, asks, stores, ends, exceeds}
 use Rattle.rules.specs.Walk.{Said, question, finished, refused, Call, Result, open-at, over, Stop, settle, turn, walk}
@@ -144,10 +145,10 @@ module _ (c : Claims) (E N : ℕ) (l : Limits c E N) where
       (λ (i e n : ℕ) (q : Point) (k : Triple → Course) (h : (a : Triple) → Always c (e + 1) n (k a)). going i e n q k cs h (r .1))
     where
       go : (b : Bool) → (T b → i ≡ x .number) → (x .number ≡ i → T b) → Onward cs
-          → Goes i (x .number) e n (x .out) cs (cond b (settle (k (x .a)) ((i + 1) % 65536) (e + 1) (x .out)) (record { said = refused 8; out = x .out; line = open-at i e q k }))
+          → Goes i (x .number) e n (x .out) cs (cond b (settle (k (x .a)) ((i + 1) % numbering) (e + 1) (x .out)) (record { said = refused 8; out = x .out; line = open-at i e q k }))
       go true y z f =
-          accepted i (x .number) ((i + 1) % 65536) e n (x .out) cs (settle (k (x .a)) ((i + 1) % 65536) (e + 1) (x .out)) (sym (y tt)) f
-          (settled ((i + 1) % 65536) (e + 1) n (k (x .a)) (x .out) (h (x .a)) (r .0))
+          accepted i (x .number) ((i + 1) % numbering) e n (x .out) cs (settle (k (x .a)) ((i + 1) % numbering) (e + 1) (x .out)) (sym (y tt)) f
+          (settled ((i + 1) % numbering) (e + 1) n (k (x .a)) (x .out) (h (x .a)) (r .0))
       go false y z f = (n, adds-none (c .sample) n (x .out), (refl, z, refl, f i e n q k h))
 
   -- ---- whoever answers every question comes to the end

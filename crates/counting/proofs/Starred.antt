@@ -13,7 +13,7 @@ use Rattle.startup.specs.Points.{offset, timeAt}
 use Rattle.run.specs.declared.Settings.{Settings}
 use Rattle.run.specs.declared.Plan.{Plan}
 use Rattle.run.specs.Plan.{directionOf, planOf, isTooNear}
-use Rattle.run.specs.Limits.{areWithinLimits}
+use Rattle.run.specs.Limits.{areWithinLimits, wantsSamples}
 use Rattle.run.specs.Formulas.{leftAt, isDue, isTail}
 use Rattle.rules.specs.Rules.{integrate}
 use Rattle.rules.specs.Asked.{clock}
@@ -30,7 +30,7 @@ timesUpTo p f i zero = []
 timesUpTo p f i (suc n) = sampleTime p f i ∷ timesUpTo p f (i + 1) n
 
 unfoldable allTimes : Plan → Fate → List Float
-allTimes p f = cond (p .settings .samples) (timesUpTo p f 0 (stepsOf f + 1)) []
+allTimes p f = cond (wantsSamples (p .settings)) (timesUpTo p f 0 (stepsOf f + 1)) []
 
 unfoldable ofFate : Plan → Fate → Expected
 ofFate p (arrives t n) = finishes t n (most p (arrives t n) (p .settings .«max_startup_iters»)) (allTimes p (arrives t n))
@@ -91,16 +91,16 @@ unfolding timesUpTo
 times-count p f i zero = refl
 times-count p f i (suc n) = ap suc (times-count p f (i + 1) n)
 
-all-at : (p : Plan) (f : Fate) (n : ℕ) (x : Float) → (p .settings .samples ≡ true) × (n ≤ stepsOf f) × (x ≡ sampleTime p f n) → At (allTimes p f) n x
+all-at : (p : Plan) (f : Fate) (n : ℕ) (x : Float) → (wantsSamples (p .settings) ≡ true) × (n ≤ stepsOf f) × (x ≡ sampleTime p f n) → At (allTimes p f) n x
 unfolding allTimes
 all-at p f n x h =
     let l = h .1 in
     let z : 0 + n ≡ n = omega arith in
     subst (λ (b : Bool). At (cond b (timesUpTo p f 0 (stepsOf f + 1)) []) n x) (sym (h .0)) (times-at p f 0 (stepsOf f + 1) n x (omega arith) (h .2 ∙ sym (ap (sampleTime p f) z)))
 
-all-count : (p : Plan) (f : Fate) → cond (p .settings .samples) (stepsOf f + 1) 0 ≡ length (allTimes p f)
+all-count : (p : Plan) (f : Fate) → cond (wantsSamples (p .settings)) (stepsOf f + 1) 0 ≡ length (allTimes p f)
 unfolding allTimes
-all-count p f = go (p .settings .samples)
+all-count p f = go (wantsSamples (p .settings))
   where
     go : (b : Bool) → cond b (stepsOf f + 1) 0 ≡ length (cond b (timesUpTo p f 0 (stepsOf f + 1)) [])
     go true = sym (times-count p f 0 (stepsOf f + 1))
@@ -125,7 +125,7 @@ module _ (p : Plan) (never : NeverStops p) where
       (λ (e n : ℕ) (c : ⊥ × ((s : ℕ) × Counted p (tails m) e n s)). c .0) 0 0 (integrate p r0 v0) h
   fate-meets (runs-out m) r0 v0 h =
       always-follows (clockwork p (runs-out m)) (expecting (ofFate p (runs-out m)))
-      (λ (n : ℕ) (t : Float) (c : (p .settings .samples ≡ true) × (n ≤ stepsOf (runs-out m)) × (t ≡ sampleTime p (runs-out m) n)). tt)
+      (λ (n : ℕ) (t : Float) (c : (wantsSamples (p .settings) ≡ true) × (n ≤ stepsOf (runs-out m)) × (t ≡ sampleTime p (runs-out m) n)). tt)
       (λ (e n : ℕ) (t : Float) (steps startups : ℕ) (c : ⊥ × Counted p (runs-out m) e n startups). c .0)
       (λ (e n : ℕ) (c : Unit {0} × ((s : ℕ) × Counted p (runs-out m) e n s)). met (runs-out m) e n (c .1 .0) (c .1 .1)) 0 0 (integrate p r0 v0) h
 

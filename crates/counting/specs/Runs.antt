@@ -14,6 +14,7 @@ use Rattle.triple.specs.declared.Sample.{Sample}
 use Rattle.refusals.specs.Numbers.{numberOf}
 use Rattle.refusals.specs.declared.Refusal.the-variants.{NoQuestion, NotThatQuestion}
 use Rattle.run.specs.declared.Settings.{Settings}
+use Rattle.run.specs.Limits.{wantsSamples}
 use Rattle.run.specs.Samples.{putAll}
 use Rattle.gauss_jackson.specs.Answers.{started}
 use Rattle.rules.specs.Walk.{Said, question, finished, refused, told, Call, Result}
@@ -80,7 +81,7 @@ Roomy n (c ∷ cs) = (10 * n ≤ length (c .out)) × Roomy n cs
 
 -- K + 1 samples, if they are wanted
 unfoldable pub roomFor : Settings → (span step : ℕ) → ℕ
-roomFor s span step = cond (s .samples) (stepsFor span step + 1) 0
+roomFor s span step = cond (wantsSamples s) (stepsFor span step + 1) 0
 
 pub record FinishesOnTime (s : Settings) (t0 tf : Float) (z0 zf hz : ℤ) (r0 v0 : Triple) (cs : List Call) : Type 0 where
   pub first : told (started s t0 tf r0 v0 .outcome) ≡ question 0 (record { t = t0; r = r0; v = v0 })

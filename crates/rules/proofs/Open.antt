@@ -7,14 +7,18 @@ use lib.Dec.{eqb}
 use lib.ListN.{length}
 use lib.Ieee.{Float}
 use Rattle.run.specs.declared.Run.{Run}
-use Rattle.run.specs.Plan.{planOf, isTooNear}
-use Rattle.run.specs.Limits.{areWithinLimits}
+use Rattle.triple.specs.declared.Triple.{Triple}
+use Rattle.run.specs.declared.Plan.{Plan}
+use Rattle.run.specs.Plan.{planOf}
+use Rattle.run.specs.Limits.{numbering, areWithinLimits}
 use Rattle.run.specs.Samples.{hasRoom, putAll}
 use Rattle.run.specs.Sound.{isSound}
 use Rattle.gauss_jackson.specs.declared.Outcome.{Outcome}
-use Rattle.gauss_jackson.specs.Answers.{answered, started}
+use Rattle.gauss_jackson.specs.declared.Verdict.{Verdict}
+use Rattle.gauss_jackson.specs.declared.Verdict.the-variants.{Fine, Refuse}
+use Rattle.gauss_jackson.specs.Answers.{answered, verdictOn, started}
 use Rattle.rules.specs.Rules.{Course, asks, stores, ends, exceeds, integrate}
-use Rattle.rules.specs.Walk.{Said, question, refused, finished, told, Call, Line, open-at, over, Stop, settle, turn, begin}
+use Rattle.rules.specs.Walk.{Said, question, refused, finished, told, Call, Line, open-at, over, Stop, settle, called, beginBy, begin}
 use Rattle.rules.specs.Follows.{NeverSeven}
 use Rattle.rules.proofs.Rest.{rest, opened, lineOf, seen}
 use Rattle.rules.proofs.Calls.{call-is}
@@ -42,16 +46,16 @@ settled-open (stores i ss t) n e out = go (hasRoom i (length ss) out) (settled-o
 settled-open (ends t y steps startups) n e out = refl
 settled-open exceeds n e out = refl
 
-turned-open : (l : Line) (k : Call) → isAsked (turn l k .said) ≡ true → isOpen (turn l k .line) ≡ true
-unfolding turn isOpen isAsked
-turned-open (open-at n e q r) k = go (eqb n (k .number))
+called-open : (l : Line) (k : Call) → isAsked (called l k .said) ≡ true → isOpen (called l k .line) ≡ true
+unfolding called isOpen isAsked
+called-open (open-at n e q r) k = go (eqb n (k .number))
   where
     go : (d : Bool)
-        → isAsked (cond d (settle (r (k .a)) ((n + 1) % 65536) (e + 1) (k .out)) (record { said = refused 8; out = k .out; line = open-at n e q r }) .said) ≡ true
-        → isOpen (cond d (settle (r (k .a)) ((n + 1) % 65536) (e + 1) (k .out)) (record { said = refused 8; out = k .out; line = open-at n e q r }) .line) ≡ true
-    go true h = sym (settled-open (r (k .a)) ((n + 1) % 65536) (e + 1) (k .out)) ∙ h
+        → isAsked (cond d (settle (r (k .a)) ((n + 1) % numbering) (e + 1) (k .out)) (record { said = refused 8; out = k .out; line = open-at n e q r }) .said) ≡ true
+        → isOpen (cond d (settle (r (k .a)) ((n + 1) % numbering) (e + 1) (k .out)) (record { said = refused 8; out = k .out; line = open-at n e q r }) .line) ≡ true
+    go true h = sym (settled-open (r (k .a)) ((n + 1) % numbering) (e + 1) (k .out)) ∙ h
     go false h = refl
-turned-open over k = λ h. h
+called-open over k = λ h. h
 
 -- a line that is open is that of a sound run
 open-sound : (run : Run) → isOpen (lineOf run) ≡ true → isSound run ≡ true
@@ -62,6 +66,11 @@ open-sound run = go (isSound run)
     go true h = refl
     go false h = h
 
+begun-open : (v : Verdict) (p : Plan) (r0 v0 : Triple) → isAsked (beginBy v p r0 v0 .said) ≡ isOpen (beginBy v p r0 v0 .line)
+unfolding beginBy isOpen isAsked
+begun-open Fine p r0 v0 = settled-open (integrate p r0 v0) 0 0 []
+begun-open (Refuse e) p r0 v0 = refl
+
 pub never-seven : NeverSeven
 unfolding seen told isAsked isOpen begun begin
 never-seven =
@@ -69,17 +78,10 @@ never-seven =
       after-start = λ s t0 tf r0 v0 q e.
           open-sound (started s t0 tf r0 v0 .run)
           (ap (λ (x : Stop). isOpen (x .line)) (begins s t0 tf r0 v0)
-          ∙ begin-open (areWithinLimits s) (isTooNear (planOf s t0 tf)) (integrate (planOf s t0 tf) r0 v0) (sym (ap (λ (x : Stop). isAsked (x .said)) (begins s t0 tf r0 v0)) ∙ ap (λ (o : Outcome). isAsked (told o)) e));
+          ∙ sym (begun-open (verdictOn (planOf s t0 tf)) (planOf s t0 tf) r0 v0)
+          ∙ sym (ap (λ (x : Stop). isAsked (x .said)) (begins s t0 tf r0 v0)) ∙ ap (λ (o : Outcome). isAsked (told o)) e);
       after-answer = λ run k q e.
           open-sound (answered run (k .number) (k .a) (k .out) .got .run)
           (ap (λ (x : Stop). isOpen (x .line)) (call-is run k)
-          ∙ turned-open (lineOf run) k (sym (ap (λ (x : Stop). isAsked (x .said)) (call-is run k)) ∙ ap (λ (o : Outcome). isAsked (told o)) e));
+          ∙ called-open (lineOf run) k (sym (ap (λ (x : Stop). isAsked (x .said)) (call-is run k)) ∙ ap (λ (o : Outcome). isAsked (told o)) e));
     }
-  where
-    begin-open : (d t : Bool) (c : Course)
-        → isAsked (cond d (cond t (record { said = refused 1; out = []; line = over }) (settle c 0 0 [])) (record { said = refused 5; out = []; line = over }) .said) ≡ true
-        → isOpen (cond d (cond t (record { said = refused 1; out = []; line = over }) (settle c 0 0 [])) (record { said = refused 5; out = []; line = over }) .line) ≡ true
-    begin-open true true c h = h
-    begin-open true false c h = sym (settled-open c 0 0 []) ∙ h
-    begin-open false true c h = h
-    begin-open false false c h = h

@@ -11,11 +11,11 @@ use Rattle.run.specs.declared.Run.{Run}
 use Rattle.run.specs.Sound.{isSound}
 use Rattle.gauss_jackson.specs.declared.Question.{Question}
 use Rattle.gauss_jackson.specs.declared.Outcome.the-variants.{Ask}
-use Rattle.gauss_jackson.specs.Answers.{Turn, answered, started}
+use Rattle.gauss_jackson.specs.Answers.{Given, answered, started}
 use Rattle.rules.specs.Walk.{Said, told, Call, Result, Stop, walk, begin}
 
 -- what the caller has of one call of `answer`
-abbrev pub heard : Turn → Result
+abbrev pub heard : Given → Result
 heard t = record { said = told (t .got .outcome); out = t .out }
 
 -- calls one after the other, each on the run that the one before left
