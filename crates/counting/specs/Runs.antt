@@ -11,6 +11,7 @@ use lib.ListN.{length}
 use lib.Ieee.{Float}
 use Rattle.triple.specs.declared.Triple.{Triple}
 use Rattle.triple.specs.declared.Sample.{Sample}
+use Rattle.triple.specs.Sampled.{sampleWidth}
 use Rattle.refusals.specs.Numbers.{numberOf}
 use Rattle.refusals.specs.declared.Refusal.the-variants.{NoQuestion, NotThatQuestion}
 use Rattle.run.specs.declared.Settings.{Settings}
@@ -77,7 +78,7 @@ Finishes (r ∷ rs) = IsFinished (r .said) ⊎ Finishes rs
 -- every buffer has room for n samples
 unfoldable pub Roomy : ℕ → List Call → Type 0
 Roomy n [] = Unit {0}
-Roomy n (c ∷ cs) = (10 * n ≤ length (c .out)) × Roomy n cs
+Roomy n (c ∷ cs) = (sampleWidth * n ≤ length (c .out)) × Roomy n cs
 
 -- K + 1 samples, if they are wanted
 unfoldable pub roomFor : Settings → (span step : ℕ) → ℕ

@@ -151,19 +151,23 @@ module _ (i e : ℕ) (c : Count) (b : Body) (x : Triple) (l : areWithinLimits (b
       (ended-is (solutionOf (b .plan .tf) (b .trial .state) c (b .track .steps + 1) b))
       ∙ ap (λ (t : Course). settle t (c .number) (c .evals) out) (wanted-is (b .plan) (b .track .steps + 1) _ _ (k .0))
 
--- ---- an RK4 step, whose waiting points are w and whose end leads to k: the next question, or what the fourth answer leads to
+-- ---- an RK4 step, whose waiting points are w and whose end leads to k
+-- a question whose rest is known by another name
+asked-by : (v : Waiting) (c : Count) (b : Body) (out : List Float) {z : Body → Triple → Course} → areWithinLimits (b .plan .settings) ≡ true → c .number ≡ c .evals % numbering
+    → next v ≡ z → Counts v (c .evals) b → seen (quiet (asking v c b) out) ≡ settle (asks (questionAt v b) (z b)) (c .number) (c .evals) out
+unfolding restAt
+asked-by v c b out l n e h =
+    asked-is v c b out l n h ∙ ap (λ (y : Body → Triple → Course). settle (asks (questionAt v b) (y b)) (c .number) (c .evals) out) e
+
 rk4-is : (w : Stage → Waiting) (k : Body → Triple → Course) (c : Count) (b : Body) (x : Triple) (out : List Float) (end : Answered)
     → areWithinLimits (b .plan .settings) ≡ true → c .number ≡ c .evals % numbering
     → ((s : Stage) → next (w s) ≡ stage w k s)
     → (s : Stage) → (isLast s ≡ false → Counts (w (stageAfter s)) (c .evals) (kept s b x)) → (s ≡ Fourth → seen (quiet end out) ≡ settle (k b x) (c .number) (c .evals) out)
     → seen (quiet (rk4Taken w s c b x end) out) ≡ settle (stage w k s b x) (c .number) (c .evals) out
-unfolding rk4Taken stage after1 after2 after3 restAt kept
-rk4-is w k c b x out end l n f First g h = asked-is (w Second) c (kept First b x) out l n (g refl) ∙ on (w Second) (kept First b x) (f Second)
-  where
-    on : (v : Waiting) (b : Body) {z : Body → Triple → Course} → next v ≡ z → settle (restAt v b) (c .number) (c .evals) out ≡ settle (asks (questionAt v b) (z b)) (c .number) (c .evals) out
-    on v b e = ap (λ (y : Body → Triple → Course). settle (asks (questionAt v b) (y b)) (c .number) (c .evals) out) e
-rk4-is w k c b x out end l n f Second g h = asked-is (w Third) c (kept Second b x) out l n (g refl) ∙ ap (λ (y : Body → Triple → Course). settle (asks (questionAt (w Third) (kept Second b x)) (y (kept Second b x))) (c .number) (c .evals) out) (f Third)
-rk4-is w k c b x out end l n f Third g h = asked-is (w Fourth) c (kept Third b x) out l n (g refl) ∙ ap (λ (y : Body → Triple → Course). settle (asks (questionAt (w Fourth) (kept Third b x)) (y (kept Third b x))) (c .number) (c .evals) out) (f Fourth)
+unfolding rk4Taken stage after1 after2 after3 kept
+rk4-is w k c b x out end l n f First g h = asked-by (w Second) c (kept First b x) out l n (f Second) (g refl)
+rk4-is w k c b x out end l n f Second g h = asked-by (w Third) c (kept Second b x) out l n (f Third) (g refl)
+rk4-is w k c b x out end l n f Third g h = asked-by (w Fourth) c (kept Third b x) out l n (f Fourth) (g refl)
 rk4-is w k c b x out end l n f Fourth g h = h refl
 
 -- ---- the one-call lemma, a line for each waiting point
