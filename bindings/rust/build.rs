@@ -4,9 +4,8 @@
 use std::path::{Path, PathBuf};
 use std::{env, fs, process};
 
-/// Where the project's script leaves the library, from the project's root, and the command that makes it.
-const OURS: &str = "target/staticlib/libapp.a";
-const MADE_BY: &str = "rt staticlib app";
+/// Where the project's scripts leave the library, from the project's root.
+const OURS: &str = "target/staticlib/libgauss_jackson.a";
 
 fn is_supported() -> bool {
     let is = |name: &str, wanted: &str| env::var(name).as_deref() == Ok(wanted);
@@ -29,7 +28,7 @@ fn library() -> PathBuf {
     }
     match named {
         Some(path) => fail(&format!("GJ_LIBRARY names no file: {}", Path::new(&path).display())),
-        None => fail(&format!("the proved library is missing: make it by `{MADE_BY}` in the project's root, or name its file in GJ_LIBRARY")),
+        None => fail("the proved library is not built yet: run `examples/run` in the project's root, or name the library's file in GJ_LIBRARY"),
     }
 }
 

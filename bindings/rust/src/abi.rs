@@ -7,6 +7,8 @@ extern "C" {
     fn abi() -> u32;
 }
 
-/// Kept in every program, so that the name is looked for in the library whichever of its functions are called.
-#[used]
-static LINKED: unsafe extern "C" fn() -> u32 = abi;
+/// Called by each function that a program can begin with, so that the linker looks for the name: a static that refers to it is dropped.
+pub(crate) fn must_be_ours() {
+    // It takes nothing and gives the number.
+    unsafe { abi() };
+}

@@ -13,7 +13,7 @@ pub struct State {
 #[cfg(feature = "dense")]
 mod calls {
     use super::State;
-    use crate::{raw, Refusal};
+    use crate::{abi, raw, Refusal};
 
     /// How many numbers the library writes a time.
     const NUMBERS: usize = 6;
@@ -44,6 +44,7 @@ mod calls {
     /// In this order: [`Refusal::Shape`] for numbers not in tens, [`Refusal::NoDenseOutput`] for fewer than two samples,
     /// [`Refusal::InterpOutOfBounds`] for a time outside them.
     pub fn interpolate(t: f64, samples: &[f64]) -> Result<State, Refusal> {
+        abi::must_be_ours();
         let mut at = State::default();
         let out = &mut at as *mut State as *mut f64;
         // A State is six numbers in the order in which the library writes them.
@@ -71,6 +72,7 @@ mod calls {
     ///
     /// Those of [`interpolate`]; a single time outside the samples refuses the whole batch.
     pub fn interpolate_batch(times: &[f64], samples: &[f64]) -> Result<Vec<State>, Refusal> {
+        abi::must_be_ours();
         let mut all = vec![State::default(); times.len()];
         let out = all.as_mut_ptr() as *mut f64;
         let (k, n, m) = (times.len(), samples.len(), NUMBERS * times.len());

@@ -57,7 +57,6 @@
 #[cfg(not(any(test, doc, all(target_arch = "x86_64", target_os = "linux"))))]
 compile_error!("the proved library is for x86-64 Linux alone: build with --target x86_64-unknown-linux-gnu (`cargo test --lib` runs anywhere)");
 
-#[cfg(all(target_arch = "x86_64", target_os = "linux"))]
 mod abi;
 mod between;
 mod drive;

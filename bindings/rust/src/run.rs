@@ -1,7 +1,6 @@
 // SPDX-License-Identifier: MIT OR Apache-2.0
 //! A run: its questions, answers and end.
-use crate::raw;
-use crate::{Refusal, Settings, Triple};
+use crate::{abi, raw, Refusal, Settings, Triple};
 
 /// What a call tells, where it is not refused.
 #[must_use = "a question waits for its answer, and the finished state is told once"]
@@ -49,6 +48,7 @@ impl Run {
     /// In this order: [`Refusal::Setting`] for a setting over its limit, [`Refusal::StepNotFinite`] for a step of zero or a span shorter
     /// than eight steps.
     pub fn start(settings: Settings, t0: f64, tf: f64, r0: Triple, v0: Triple) -> Result<(Run, Reply), Refusal> {
+        abi::must_be_ours();
         let mut run = raw::Run([0; 132]);
         // The run is ours and as large as the library's; it is written whole.
         let reply = unsafe { raw::gj_start(&mut run, settings.into(), t0, tf, r0, v0) };

@@ -1,6 +1,6 @@
 // SPDX-License-Identifier: MIT OR Apache-2.0
 //! What the caller chooses.
-use crate::raw;
+use crate::{abi, raw};
 
 /// What the caller chooses. [`Settings::default`] has the library's own values; change what you need:
 ///
@@ -30,6 +30,7 @@ pub struct Settings {
 impl Default for Settings {
     /// The library's own values, asked from it.
     fn default() -> Settings {
+        abi::must_be_ours();
         // It takes nothing, and every value of the record that it gives is taken.
         let raw = unsafe { raw::gj_default_settings() };
         Settings {
