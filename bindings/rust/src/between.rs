@@ -46,7 +46,7 @@ mod calls {
     pub fn interpolate(t: f64, samples: &[f64]) -> Result<State, Refusal> {
         abi::must_be_ours();
         let mut at = State::default();
-        let out = &mut at as *mut State as *mut f64;
+        let out = std::ptr::addr_of_mut!(at).cast();
         // A State is six numbers in the order in which the library writes them.
         read(unsafe { raw::gj_interpolate(t, samples.as_ptr(), samples.len(), out, NUMBERS) })?;
         Ok(at)
@@ -74,7 +74,7 @@ mod calls {
     pub fn interpolate_batch(times: &[f64], samples: &[f64]) -> Result<Vec<State>, Refusal> {
         abi::must_be_ours();
         let mut all = vec![State::default(); times.len()];
-        let out = all.as_mut_ptr() as *mut f64;
+        let out = all.as_mut_ptr().cast();
         let (k, n, m) = (times.len(), samples.len(), NUMBERS * times.len());
         read(unsafe { raw::gj_interpolate_batch(times.as_ptr(), k, samples.as_ptr(), n, out, m) })?;
         Ok(all)
