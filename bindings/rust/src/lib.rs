@@ -29,30 +29,32 @@
 //!
 //! # Units
 //!
-//! Any that agree: the times, the step, positions and velocities are in the units of your force. The default step of 60 is a minute where
-//! the unit of time is the second. The examples use km and s.
+//! Any that agree: times, the step, positions and velocities are in the units of your force. The default step of 60 is a minute where the
+//! unit of time is the second. The examples use km and s.
 //!
 //! # What the force is asked
 //!
-//! The startup works out points on both sides of the start, so **the force is asked at times before the span**: from t0 - 4h on (in a run
-//! backward: up to t0 + 4h, h taken without its sign), and not in the order of time. Tables of an ephemeris or of the air's density that
-//! begin at t0 do not reach. After the startup the times go on step by step, each asked once or more; where times are not whole numbers, the last may
-//! pass tf by the rounding of the clock.
+//! The startup works out points on both sides of the start, so **the force is asked at times outside the span**: from t0 - 4h on (in a run
+//! backward: from t0 + 4h on, h taken without its sign), and not in the order of time. Tables of an ephemeris or of the air's density that
+//! begin at t0 do not reach. After the startup the times go on step by step, each asked once or more; where they are not whole numbers,
+//! the last may pass tf by rounding.
 //!
 //! # What the caller owes
 //!
 //! Buffers are slices, so no pointer is null and no count is wrong; every value is taken, and what the library cannot use it refuses by a
 //! [`Refusal`] with a text. What is left to the caller is the processor's floating-point environment, as Rust itself expects it: rounding
-//! to nearest, subnormal numbers on, exceptions masked. (C code that was built for fast floats may have changed it for the whole thread.) Values
-//! that are allowed can still be of no use: a step too large for the orbit, a NaN for a date ([`Run::start`]), times of a batch out of order
-//! ([`interpolate_batch`]).
+//! to nearest, subnormal numbers on, exceptions masked. (C code that was built for fast floats may have changed it for its thread.)
+//!
+//! Values that are allowed can still be of no use: a step too large for the orbit, a NaN for a date ([`Run::start`]), times of a batch out
+//! of order ([`interpolate_batch`]).
 //!
 //! What the library does is proved; this crate, its declarations above all, is not: tests compare them.
 //!
 //! # Where it runs
 //!
-//! On x86-64 Linux alone. The crate links the library that the variable `GJ_LIBRARY` names by its file, or else the one that the project has
-//! built in its own folder. A library of another ABI number fails to link.
+//! On x86-64 Linux alone. The crate links the library whose file the variable `GJ_LIBRARY` names, by a full path or from the project's root;
+//! without it, the one that the project has built. A library of another ABI number fails to link: the linker then misses `gj_abi_` with
+//! this crate's number.
 
 #[cfg(not(any(test, doc, all(target_arch = "x86_64", target_os = "linux"))))]
 compile_error!("the proved library is for x86-64 Linux alone: build with --target x86_64-unknown-linux-gnu (`cargo test --lib` runs anywhere)");

@@ -116,14 +116,17 @@ fn samples_stay_after_a_refusal() {
 /// What `Run::start` warns of. When the library refuses it, the warning goes, and this test with it.
 #[test]
 fn a_blank_date_is_told_as_finished() {
-    let end = run(PLAIN, 0.0, f64::NAN).drive(force, &mut []).unwrap();
-    assert_eq!((end.steps, end.evals), (4, 49));
+    for (t0, tf, h) in [(0.0, f64::NAN, 1.0), (f64::NAN, 8.0, 1.0), (0.0, 8.0, f64::NAN)] {
+        let end = run(Settings { h, ..PLAIN }, t0, tf).drive(force, &mut []).unwrap();
+        assert_eq!((end.steps, end.evals), (4, 49));
+    }
 }
 
 #[test]
 fn runs_go_to_other_threads() {
     let end = run(PLAIN, 0.0, 100.0).drive(force, &mut []).unwrap();
-    let threads: Vec<_> = (0..4).map(|_| run(PLAIN, 0.0, 100.0)).map(|mut r: Run| std::thread::spawn(move || r.drive(force, &mut []))).collect();
+    let driven = |mut run: Run| std::thread::spawn(move || run.drive(force, &mut []));
+    let threads: Vec<_> = (0..4).map(|_| driven(run(PLAIN, 0.0, 100.0))).collect();
     for thread in threads {
         assert_eq!(thread.join().unwrap(), Ok(end));
     }
