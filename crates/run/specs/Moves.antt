@@ -109,10 +109,6 @@ tried b x = withTrial b (record { state = x; fixed = b .trial .fixed })
 unfoldable pub committed : Body → State → Triple → Body
 committed b y x = withTrack (withA b (slid (b .a) x)) (trackOn (b .plan) (b .track) y x)
 
--- the newest point is k, with the acceleration x
-unfoldable pub arrived : Body → Track → Triple → Body
-arrived b k x = withTrack (withA b (slid (b .a) x)) k
-
 -- the end of the tail: "RK4 over rem"
 unfoldable pub endOfTail : Body → Triple → State
 endOfTail b x = endOf (tailFrom (b .track)) (leftAt (b .plan) (b .track .t)) (b .slopes) x
