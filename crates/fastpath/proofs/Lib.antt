@@ -1,1 +1,3 @@
-pub mod Whole
+pub mod Looked
+pub mod Taken
+pub mod SameAnswer
