@@ -60,7 +60,12 @@ fn end_step(count: Count, b: Body, out: &mut [f64]) -> Answered
         return outcomes::end(Outcome::Refused(Refusal::SampleRoom));
     }
     let window = b.a;
-    samples::keep_sample(wanted, b.track.steps, samples::step_sample(b.track, window), out);
+    samples::keep_sample(
+        wanted,
+        b.track.steps,
+        samples::step_sample(b.track, window),
+        out,
+    );
     onward(count, b)
 }
 
