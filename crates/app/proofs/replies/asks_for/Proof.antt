@@ -1,8 +1,8 @@
 -- `asks_for` is `asksFor`.
 use mathlib.Core.Path.{refl}
 use Rattle.app.specs.Reply.{asksFor}
-use Rattle.app.proofs.asks_for.Statement.{statement}
-use Rattle.app.proofs.asks_for.Tie as tie
+use Rattle.app.proofs.replies.asks_for.Statement.{statement}
+use Rattle.app.proofs.replies.asks_for.Tie as tie
 
 returns : tie.Need-returns
 unfolding asksFor

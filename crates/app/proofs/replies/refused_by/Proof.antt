@@ -3,8 +3,8 @@ use mathlib.Core.Path.{refl}
 use lib.Ieee.{ofBits}
 use borrow.Author.Needs.{needs}
 use Rattle.app.specs.Reply.{refusedBy}
-use Rattle.app.proofs.refused_by.Statement.{statement}
-use Rattle.app.proofs.refused_by.Tie as tie
+use Rattle.app.proofs.replies.refused_by.Statement.{statement}
+use Rattle.app.proofs.replies.refused_by.Tie as tie
 
 returns : tie.Need-returns
 unfolding refusedBy ofBits

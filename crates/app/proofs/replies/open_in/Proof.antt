@@ -1,7 +1,7 @@
 -- `open_in` is `openQuestion` in plain numbers.
 use borrow.Author.Needs.{needs}
-use Rattle.app.proofs.open_in.Statement.{statement}
-use Rattle.app.proofs.open_in.Tie as tie
+use Rattle.app.proofs.replies.open_in.Statement.{statement}
+use Rattle.app.proofs.replies.open_in.Tie as tie
 
 returns : tie.Need-returns
 returns c = rw (← c .before .open-question .ensures) (c .reply-of .ensures)

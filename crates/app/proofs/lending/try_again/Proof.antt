@@ -1,4 +1,4 @@
--- `app::try_again` meets its contract: a walk of its MIR. Parts of the struct that is lent are read and passed to `tried_by`; of what came back the parts that change are stored, each in its place, and the borrow is closed there.
+-- `app::lending::try_again` meets its contract: a walk of its MIR. Parts of the struct that is lent are read and passed to `tried_reply`; of what came back the parts that change are stored, each in its place, and the borrow is closed there.
 -- Assumes nothing.
 use mathlib.Core.Path.{_≡_, refl, ap, subst, sym, _∙_}
 use Prim.Native.Nat.{ℕ, suc}
@@ -47,7 +47,7 @@ use denote.Exit.{yes}
 use mir.Raw.{raw as rawTy}
 use Rattle.app.specs.Reply.{triedReply, triedRun}
 use Rattle.run.specs.declared.Body.{Body}
-use Rattle.quick.specs.declared.Look.{Look}
+use Rattle.fastpath.specs.declared.Look.{Look}
 use Rattle.run.specs.declared.Mark.{Mark}
 use Rattle.startup.specs.declared.Places.{Places}
 use Rattle.run.specs.declared.Plan.{Plan}
@@ -61,8 +61,8 @@ use Rattle.triple.specs.declared.Triple.{Triple}
 use Rattle.startup.specs.declared.Widest.{Widest}
 use Rattle.run.proofs.Body as Body′
 use Rattle.run.proofs.Body.Laws as Body″
-use Rattle.quick.proofs.Look as Look′
-use Rattle.quick.proofs.Look.Laws as Look″
+use Rattle.fastpath.proofs.Look as Look′
+use Rattle.fastpath.proofs.Look.Laws as Look″
 use Rattle.run.proofs.Mark as Mark′
 use Rattle.run.proofs.Mark.Laws as Mark″
 use Rattle.startup.proofs.Places as Places′
@@ -85,14 +85,14 @@ use Rattle.triple.proofs.Triple as Triple′
 use Rattle.triple.proofs.Triple.Laws as Triple″
 use Rattle.startup.proofs.Widest as Widest′
 use Rattle.startup.proofs.Widest.Laws as Widest″
-use Rattle.app.proofs.tried_by as g
-use Rattle.app.proofs.tried_by.Symbol as g-def
-use Rattle.app.proofs.tried_by.Symbol.{name as #app·tried-by}
-use Rattle.app.proofs.tried_by.Met as g-thm
-use Rattle.app.proofs.try_again.Key.{name as #app·try-again}
-use Rattle.app.proofs.try_again as f
-use Rattle.app.proofs.try_again.Statement as stated
-use Rattle.app.proofs.try_again.Code as code
+use Rattle.app.proofs.lending.tried_reply as g
+use Rattle.app.proofs.lending.tried_reply.Symbol as g-def
+use Rattle.app.proofs.lending.tried_reply.Symbol.{name as #app·lending·tried-reply}
+use Rattle.app.proofs.lending.tried_reply.Met as g-thm
+use Rattle.app.proofs.lending.try_again.Key.{name as #app·lending·try-again}
+use Rattle.app.proofs.lending.try_again as f
+use Rattle.app.proofs.lending.try_again.Statement as stated
+use Rattle.app.proofs.lending.try_again.Code as code
 
 -- the function, each declared type in the form that its row has: no step of the walk spells one out
 abbrev first : List Ty → Ty
@@ -155,7 +155,7 @@ walked-fn = record {
       (seq (assign (place 7 []) (rvOpd (copy (place 1 (deref τ-Run ∷ field 1 ∷ field 7 ∷ [])))))
       (seq (assign (place 8 []) (addrOf (place 3 (field 0 ∷ deref (tyFloat binary64) ∷ []))))
       (seq (assign (place 9 []) (aggregate (copy (place 8 []) ∷ copy (place 3 (field 1 ∷ [])) ∷ [])))
-      (seq (call #app·tried-by (copy (place 2 []) ∷ copy (place 5 []) ∷ copy (place 6 []) ∷ copy (place 7 []) ∷ copy (place 9 []) ∷ []) (place 4 []))
+      (seq (call #app·lending·tried-reply (copy (place 2 []) ∷ copy (place 5 []) ∷ copy (place 6 []) ∷ copy (place 7 []) ∷ copy (place 9 []) ∷ []) (place 4 []))
       (seq (assign (place 1 (deref τ-Run ∷ field 0 ∷ [])) (rvOpd (copy (place 4 (field 0 ∷ [])))))
       (seq (assign (place 1 (deref τ-Run ∷ field 1 ∷ field 7 ∷ [])) (rvOpd (copy (place 4 (field 1 ∷ [])))))
       (seq (assign (place 0 []) (rvOpd (copy (place 4 (field 2 ∷ [])))))
@@ -221,7 +221,7 @@ module _ {M : Type 1} (𝓤 : URA M) (H : Heap 𝓤) (A : Atoms 𝓤) (W : Given
       qed W (‵ (flft κ-v-run q-v-run) ∷ ‵ (flft κ-v-out q-v-out) ∷ ‵ (fobs γ-v-run (Run′.the-row .coded .code (triedRun v-run r))) ∷ ‵ (fbor κ-v-run (Held (mem Run′.the-row) b-v-run o-v-run γ-v-run)) ∷ ‵ (finally f64 γ-v-out z-v-out) ∷ []) ∵
       suffices ! _ (ends-at 𝓤 H A f.ended stayed (f.clauses 𝓤 H A at-mem run-of) W (((κ-v-run, (κ-v-out, tt)), (q-v-run, (q-v-out, tt)), tt, x, at), tt) (LL.val Reply′.the-type Reply″.the-laws (r .reply)) (r .reply) ((triedRun v-run r), (tt, (z-v-out, tt))) (tt, (tt, (l-v-out, tt)))) $ says ! (ap (λ (d : TriedReply). d .reply) (e .0), ap (λ (d : TriedReply). triedRun v-run d) (e .0), e .1) $ nothing ! $ move ! (2 ∷ 0 ∷ []) $ join ! $ move ! (1 ∷ 0 ∷ []) $ join ! $ frame ! $ nothing ! $ move ! (3 ∷ 0 ∷ []) $ fjoin ! $ owned ! Look′.the-row (Is Look′.the-row) (LL.makes Look′.the-type Look″.the-plain 𝓤 H A) v-look _ v-look-is $ fjoin ! $ move ! (1 ∷ 2 ∷ 0 ∷ []) $ feqI ! (List Val) ((vptr b-v-run o-v-run) ∷ []) ((vptr b-v-run o-v-run) ∷ []) refl $ fjoin3 ! $ fjoin ! $ owned ! Reply′.the-row (Is Reply′.the-row) (LL.makes Reply′.the-type Reply″.the-plain 𝓤 H A) (r .reply) _ is $ move ! (1 ∷ 0 ∷ []) $ done !
 
-  module _ (C : Calls 𝓤 H) (Λ : Loops 𝓤 H) (fm : FmC 𝓤 H (W .laws) C) (known : Meeting 𝓤 (C #app·tried-by) (Callee 𝓤 H A at-mem run-of)) where
+  module _ (C : Calls 𝓤 H) (Λ : Loops 𝓤 H) (fm : FmC 𝓤 H (W .laws) C) (known : Meeting 𝓤 (C #app·lending·tried-reply) (Callee 𝓤 H A at-mem run-of)) where
     walk : ent 𝓤 (onEntry 𝓤 H A f.signature (κ-v-run, (κ-v-out, tt)) (q-v-run, (q-v-out, tt)) x at) (WpFn 𝓤 H C Λ walked-fn ((vptr b-v-run o-v-run) ∷ (LL.val Look′.the-type Look″.the-laws v-look) ∷ (sliceVal (b-v-out, o-v-out) (length v-out)) ∷ []) Post)
     walk =
         qed W ((‵ (flft κ-v-run q-v-run) ⊛ ‵ (flft κ-v-out q-v-out) ⊛ ‵ ftrue) ∷ ‵ (owns (MutRef (named 0) κ-v-run Run′.the-row ∷ Look′.the-row ∷ MutSlice (named 1) κ-v-out f64 ∷ []) x at) ∷ []) ∵ enter ! C Λ walked-fn ((vptr b-v-run o-v-run) ∷ (LL.val Look′.the-type Look″.the-laws v-look) ∷ (sliceVal (b-v-out, o-v-out) (length v-out)) ∷ []) _ $
@@ -242,7 +242,7 @@ module _ {M : Type 1} (𝓤 : URA M) (H : Heap 𝓤) (A : Atoms 𝓤) (W : Given
         returns ! (look ! 29 refl) $ forget ! 11 refl $ forget ! 13 refl $ forget ! 15 refl $ forget ! 17 refl $ forget ! 19 refl $ forget ! 21 refl $ forget ! 23 refl $ forget ! 25 refl $ forget ! 27 refl $ forget ! 29 refl $ move ! (29 ∷ 30 ∷ []) $ free1 ! $ move ! (27 ∷ 28 ∷ []) $ free1 ! $ move ! (25 ∷ 26 ∷ []) $ free1 ! $ move ! (23 ∷ 24 ∷ []) $ free1 ! $ move ! (21 ∷ 22 ∷ []) $ free1 ! $ move ! (19 ∷ 20 ∷ []) $ free1 ! $ move ! (17 ∷ 18 ∷ []) $ free1 ! $ move ! (15 ∷ 16 ∷ []) $ free1 ! $ move ! (13 ∷ 14 ∷ []) $ free1 ! $ move ! (11 ∷ 12 ∷ []) $ free1 ! $ free0 ! $ keep ! (2 ∷ 4 ∷ 0 ∷ 1 ∷ 6 ∷ []) $ by ! (exits r (zs .1 .1 .1 .1 .0) e l-v-out (reply-is r _ is))))))))))))))))))))
 
 module _ {M : Type 1} (𝓤 : URA M) (H : Heap 𝓤) (A : Atoms 𝓤) (W : Given 𝓤 H A) (mem : Memory → SProp 𝓤) (run-of : Routine → Fun 𝓤) where
-  walks : (C : Calls 𝓤 H) (Λ : Loops 𝓤 H) → FmC 𝓤 H (W .laws) C → Meeting 𝓤 (C #app·tried-by) (Callee 𝓤 H A mem run-of) → Walks 𝓤 H A f.ended stayed (WpFn 𝓤 H C Λ walked-fn) (f.clauses 𝓤 H A mem run-of)
+  walks : (C : Calls 𝓤 H) (Λ : Loops 𝓤 H) → FmC 𝓤 H (W .laws) C → Meeting 𝓤 (C #app·lending·tried-reply) (Callee 𝓤 H A mem run-of) → Walks 𝓤 H A f.ended stayed (WpFn 𝓤 H C Λ walked-fn) (f.clauses 𝓤 H A mem run-of)
   walks C Λ fm known = walked 𝓤 H A f.ended stayed (f.clauses 𝓤 H A mem run-of) (WpFn 𝓤 H C Λ walked-fn)
       (λ κs. (ptr-vals, (LL.vals Look′.the-type Look″.the-laws, (slice-vals, tt)))) (λ κs. (mut-tells (named 0) (κs .0) Run′.the-row, (LL.tells Look′.the-type Look″.the-laws, (mut-slice-tells (named 1) (κs .1 .0) f64, tt))))
       (λ κs qs bounds a _ are. via 𝓤 _ (fst∗ 𝓤 _ (emp 𝓤)) (walk 𝓤 H A W mem run-of (κs .0) (κs .1 .0) (qs .0) (qs .1 .0) (a .0 .ptr .0) (a .0 .ptr .1) (a .0 .name) (a .0 .now) (a .1 .0) (a .1 .1 .0 .ptr .0) (a .1 .1 .0 .ptr .1) (a .1 .1 .0 .name) (a .1 .1 .0 .now) (are .1 .0) (are .1 .1 .0 .0 .1) C Λ fm known))
@@ -250,7 +250,7 @@ module _ {M : Type 1} (𝓤 : URA M) (H : Heap 𝓤) (A : Atoms 𝓤) (W : Given
   all-go : AllGo 𝓤 H A W 2 (f.signature .params) (f.ended .kept) stayed
   all-go = (goes-ref 𝓤 H A W 2 0 tt (plain (λ _. Run′.the-row)), (goes-none 𝓤 H A W 2 (λ _. Look′.the-row) yes (λ κs x f. refl), (goes-gave-slice 𝓤 H A W 2 1 tt (plain (λ _. f64)), tt)))
 
-meets : {M : Type 1} (𝓤 : URA M) (H : Heap 𝓤) (A : Atoms 𝓤) → Given 𝓤 H A → (mem : Memory → SProp 𝓤) (run-of : Routine → Fun 𝓤) (𝓣 : Tables 𝓤 H) → Meeting 𝓤 (𝓣 .C #app·tried-by) (Callee 𝓤 H A mem run-of)
+meets : {M : Type 1} (𝓤 : URA M) (H : Heap 𝓤) (A : Atoms 𝓤) → Given 𝓤 H A → (mem : Memory → SProp 𝓤) (run-of : Routine → Fun 𝓤) (𝓣 : Tables 𝓤 H) → Meeting 𝓤 (𝓣 .C #app·lending·tried-reply) (Callee 𝓤 H A mem run-of)
     → Meets 𝓤 H A f.signature (WpFn 𝓤 H (𝓣 .C) (𝓣 .Λ) walked-fn) (f.spec 𝓤 H A mem run-of)
 meets 𝓤 H A W mem run-of 𝓣 known =
     walk-meets 𝓤 H A f.ended stayed W (all-go 𝓤 H A W mem run-of) (f.clauses 𝓤 H A mem run-of)
@@ -260,6 +260,6 @@ pub try-again-spec : {M : Type 1} → stated.statement M
 unfolding code.routine tablesOf
 try-again-spec 𝓤 H 𝓜 𝓖 𝓡 =
     entered 𝓤 H (tripleOf 𝓤 H (𝓖 .A) f.signature (f.spec 𝓤 H (𝓖 .A) (𝓜 .mem) (𝓡 .run)))
-    (tables 𝓤 H 𝓜 𝓡 code.env .C) (tables 𝓤 H 𝓜 𝓡 code.env .Λ) #app·try-again code.function (code.unfolded 𝓤 H 𝓜 𝓡)
+    (tables 𝓤 H 𝓜 𝓡 code.env .C) (tables 𝓤 H 𝓜 𝓡 code.env .Λ) #app·lending·try-again code.function (code.unfolded 𝓤 H 𝓜 𝓡)
     (subst (λ (F : Fn). Meets 𝓤 H (𝓖 .A) f.signature (WpFn 𝓤 H (tables 𝓤 H 𝓜 𝓡 code.env .C) (tables 𝓤 H 𝓜 𝓡 code.env .Λ) F) (f.spec 𝓤 H (𝓖 .A) (𝓜 .mem) (𝓡 .run))) (sym function-is) (meets 𝓤 H (𝓖 .A) (givenOf 𝓤 H 𝓜 𝓖) (𝓜 .mem) (𝓡 .run) (tablesOf 𝓤 H 𝓜 (tables 𝓤 H 𝓜 𝓡 code.env))
-    (cited 𝓤 H (Callee 𝓤 H (𝓖 .A) (𝓜 .mem) (𝓡 .run)) 𝓜 𝓡 code.env #app·tried-by g-def.routine code.calls-app·tried-by (g-thm.met 𝓤 H 𝓜 𝓖 𝓡))))
+    (cited 𝓤 H (Callee 𝓤 H (𝓖 .A) (𝓜 .mem) (𝓡 .run)) 𝓜 𝓡 code.env #app·lending·tried-reply g-def.routine code.calls-app·lending·tried-reply (g-thm.met 𝓤 H 𝓜 𝓖 𝓡))))

@@ -1,8 +1,8 @@
 -- `started_by` is `started`, its outcome in plain numbers.
 use mathlib.Core.Path.{refl}
 use borrow.Author.Needs.{needs}
-use Rattle.app.proofs.started_by.Statement.{statement}
-use Rattle.app.proofs.started_by.Tie as tie
+use Rattle.app.proofs.replies.started_by.Statement.{statement}
+use Rattle.app.proofs.replies.started_by.Tie as tie
 
 returns : tie.Need-returns
 returns c = rw (c .reply-of .ensures, c .before .before .start .ensures) refl

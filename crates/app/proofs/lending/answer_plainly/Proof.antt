@@ -1,4 +1,4 @@
--- `app::take_turn` meets its contract: a walk of its MIR. The struct that is lent is copied out of its borrow and passed to `answered_by`; what came back is stored in its place, and the borrow is closed there.
+-- `app::lending::answer_plainly` meets its contract: a walk of its MIR. The struct that is lent is copied out of its borrow and passed to `answered_by`; what came back is stored in its place, and the borrow is closed there.
 -- Assumes nothing.
 use mathlib.Core.Path.{_≡_, refl, ap, subst, sym}
 use Prim.Native.Nat.{ℕ}
@@ -54,14 +54,14 @@ use Rattle.run.proofs.Run as Run′
 use Rattle.run.proofs.Run.Laws as Run″
 use Rattle.triple.proofs.Triple as Triple′
 use Rattle.triple.proofs.Triple.Laws as Triple″
-use Rattle.app.proofs.answered_by as g
-use Rattle.app.proofs.answered_by.Symbol as g-def
-use Rattle.app.proofs.answered_by.Symbol.{name as #app·answered-by}
-use Rattle.app.proofs.answered_by.Met as g-thm
-use Rattle.app.proofs.take_turn.Key.{name as #app·take-turn}
-use Rattle.app.proofs.take_turn as f
-use Rattle.app.proofs.take_turn.Statement as stated
-use Rattle.app.proofs.take_turn.Code as code
+use Rattle.app.proofs.replies.answered_by as g
+use Rattle.app.proofs.replies.answered_by.Symbol as g-def
+use Rattle.app.proofs.replies.answered_by.Symbol.{name as #app·replies·answered-by}
+use Rattle.app.proofs.replies.answered_by.Met as g-thm
+use Rattle.app.proofs.lending.answer_plainly.Key.{name as #app·lending·answer-plainly}
+use Rattle.app.proofs.lending.answer_plainly as f
+use Rattle.app.proofs.lending.answer_plainly.Statement as stated
+use Rattle.app.proofs.lending.answer_plainly.Code as code
 
 -- the function, each declared type in the form that its row has: no step of the walk spells one out
 abbrev first : List Ty → Ty
@@ -92,7 +92,7 @@ walked-fn = record {
   body = (seq (assign (place 6 []) (rvOpd (copy (place 1 (deref τ-Run ∷ [])))))
       (seq (assign (place 7 []) (addrOf (place 4 (field 0 ∷ deref (tyFloat binary64) ∷ []))))
       (seq (assign (place 8 []) (aggregate (copy (place 7 []) ∷ copy (place 4 (field 1 ∷ [])) ∷ [])))
-      (seq (call #app·answered-by (copy (place 6 []) ∷ copy (place 2 []) ∷ copy (place 3 []) ∷ copy (place 8 []) ∷ []) (place 5 []))
+      (seq (call #app·replies·answered-by (copy (place 6 []) ∷ copy (place 2 []) ∷ copy (place 3 []) ∷ copy (place 8 []) ∷ []) (place 5 []))
       (seq (assign (place 1 (deref τ-Run ∷ [])) (rvOpd (copy (place 5 (field 0 ∷ [])))))
       (seq (assign (place 0 []) (rvOpd (copy (place 5 (field 1 ∷ [])))))
       return))))));
@@ -147,7 +147,7 @@ module _ {M : Type 1} (𝓤 : URA M) (H : Heap 𝓤) (A : Atoms 𝓤) (W : Given
       qed W (‵ (flft κ-v-run q-v-run) ∷ ‵ (flft κ-v-out q-v-out) ∷ ‵ (fobs γ-v-run (Run′.the-row .coded .code (r .run))) ∷ ‵ (fbor κ-v-run (Body (mem Run′.the-row) b-v-run o-v-run γ-v-run)) ∷ ‵ (finally f64 γ-v-out z-v-out) ∷ []) ∵
       suffices ! _ (ends-at 𝓤 H A f.ended stayed (f.clauses 𝓤 H A at-mem run-of) W (((κ-v-run, (κ-v-out, tt)), (q-v-run, (q-v-out, tt)), tt, x, at), tt) (LL.val Reply′.the-type Reply″.the-laws (r .reply)) (r .reply) (r .run, (tt, (tt, (z-v-out, tt)))) (tt, (tt, (tt, (l-v-out, tt))))) $ says ! (ap (λ (d : Replied). d .reply) (e .0), ap (λ (d : Replied). d .run) (e .0), e .1) $ nothing ! $ move ! (2 ∷ 0 ∷ []) $ join ! $ move ! (1 ∷ 0 ∷ []) $ join ! $ frame ! $ nothing ! $ move ! (3 ∷ 0 ∷ []) $ fjoin ! $ owned ! Triple′.the-row (Is Triple′.the-row) (LL.makes Triple′.the-type Triple″.the-plain 𝓤 H A) v-a _ v-a-is $ fjoin ! $ owned ! u16 (Is u16) (uint-makes 𝓤 H A W w16) v-number _ v-number-is $ fjoin ! $ move ! (1 ∷ 2 ∷ 0 ∷ []) $ feqI ! (List Val) ((vptr b-v-run o-v-run) ∷ []) ((vptr b-v-run o-v-run) ∷ []) refl $ fjoin3 ! $ fjoin ! $ owned ! Reply′.the-row (Is Reply′.the-row) (LL.makes Reply′.the-type Reply″.the-plain 𝓤 H A) (r .reply) _ is $ move ! (1 ∷ 0 ∷ []) $ done !
 
-  module _ (C : Calls 𝓤 H) (Λ : Loops 𝓤 H) (fm : FmC 𝓤 H (W .laws) C) (known : Meeting 𝓤 (C #app·answered-by) (Callee 𝓤 H A at-mem run-of)) where
+  module _ (C : Calls 𝓤 H) (Λ : Loops 𝓤 H) (fm : FmC 𝓤 H (W .laws) C) (known : Meeting 𝓤 (C #app·replies·answered-by) (Callee 𝓤 H A at-mem run-of)) where
     walk : ent 𝓤 (onEntry 𝓤 H A f.signature (κ-v-run, (κ-v-out, tt)) (q-v-run, (q-v-out, tt)) x at) (WpFn 𝓤 H C Λ walked-fn ((vptr b-v-run o-v-run) ∷ (vint w16 v-number) ∷ (LL.val Triple′.the-type Triple″.the-laws v-a) ∷ (sliceVal (b-v-out, o-v-out) (length v-out)) ∷ []) Post)
     walk =
         qed W ((‵ (flft κ-v-run q-v-run) ⊛ ‵ (flft κ-v-out q-v-out) ⊛ ‵ ftrue) ∷ ‵ (owns (MutRef (named 0) κ-v-run Run′.the-row ∷ u16 ∷ Triple′.the-row ∷ MutSlice (named 1) κ-v-out f64 ∷ []) x at) ∷ []) ∵ enter ! C Λ walked-fn ((vptr b-v-run o-v-run) ∷ (vint w16 v-number) ∷ (LL.val Triple′.the-type Triple″.the-laws v-a) ∷ (sliceVal (b-v-out, o-v-out) (length v-out)) ∷ []) _ $
@@ -168,7 +168,7 @@ module _ {M : Type 1} (𝓤 : URA M) (H : Heap 𝓤) (A : Atoms 𝓤) (W : Given
         returns ! (look ! 29 refl) $ forget ! 13 refl $ forget ! 15 refl $ forget ! 17 refl $ forget ! 19 refl $ forget ! 21 refl $ forget ! 23 refl $ forget ! 25 refl $ forget ! 27 refl $ forget ! 29 refl $ move ! (29 ∷ 30 ∷ []) $ free1 ! $ move ! (27 ∷ 28 ∷ []) $ free1 ! $ move ! (25 ∷ 26 ∷ []) $ free1 ! $ move ! (23 ∷ 24 ∷ []) $ free1 ! $ move ! (21 ∷ 22 ∷ []) $ free1 ! $ move ! (19 ∷ 20 ∷ []) $ free1 ! $ move ! (17 ∷ 18 ∷ []) $ free1 ! $ move ! (15 ∷ 16 ∷ []) $ free1 ! $ move ! (13 ∷ 14 ∷ []) $ free1 ! $ free0 ! $ keep ! (2 ∷ 4 ∷ 0 ∷ 1 ∷ 6 ∷ []) $ by ! (exits r (zs .1 .1 .1 .0) e l-v-out (result-is r _ is)))))))))))))))))))
 
 module _ {M : Type 1} (𝓤 : URA M) (H : Heap 𝓤) (A : Atoms 𝓤) (W : Given 𝓤 H A) (mem : Memory → SProp 𝓤) (run-of : Routine → Fun 𝓤) where
-  walks : (C : Calls 𝓤 H) (Λ : Loops 𝓤 H) → FmC 𝓤 H (W .laws) C → Meeting 𝓤 (C #app·answered-by) (Callee 𝓤 H A mem run-of) → Walks 𝓤 H A f.ended stayed (WpFn 𝓤 H C Λ walked-fn) (f.clauses 𝓤 H A mem run-of)
+  walks : (C : Calls 𝓤 H) (Λ : Loops 𝓤 H) → FmC 𝓤 H (W .laws) C → Meeting 𝓤 (C #app·replies·answered-by) (Callee 𝓤 H A mem run-of) → Walks 𝓤 H A f.ended stayed (WpFn 𝓤 H C Λ walked-fn) (f.clauses 𝓤 H A mem run-of)
   walks C Λ fm known = walked 𝓤 H A f.ended stayed (f.clauses 𝓤 H A mem run-of) (WpFn 𝓤 H C Λ walked-fn)
       (λ κs. (ptr-vals, (uint-vals w16, (LL.vals Triple′.the-type Triple″.the-laws, (slice-vals, tt))))) (λ κs. (mut-tells (named 0) (κs .0) Run′.the-row, (uint-tells w16, (LL.tells Triple′.the-type Triple″.the-laws, (mut-slice-tells (named 1) (κs .1 .0) f64, tt)))))
       (λ κs qs bounds a _ are. via 𝓤 _ (fst∗ 𝓤 _ (emp 𝓤)) (walk 𝓤 H A W mem run-of (κs .0) (κs .1 .0) (qs .0) (qs .1 .0) (a .0 .ptr .0) (a .0 .ptr .1) (a .0 .name) (a .0 .now) (a .1 .0) (a .1 .1 .0) (a .1 .1 .1 .0 .ptr .0) (a .1 .1 .1 .0 .ptr .1) (a .1 .1 .1 .0 .name) (a .1 .1 .1 .0 .now) (are .1 .0) (are .1 .1 .0) (are .1 .1 .1 .0 .0 .1) C Λ fm known))
@@ -176,16 +176,16 @@ module _ {M : Type 1} (𝓤 : URA M) (H : Heap 𝓤) (A : Atoms 𝓤) (W : Given
   all-go : AllGo 𝓤 H A W 2 (f.signature .params) (f.ended .kept) stayed
   all-go = (goes-ref 𝓤 H A W 2 0 tt (plain (λ _. Run′.the-row)), (goes-none 𝓤 H A W 2 (λ _. u16) yes (λ κs x f. refl), (goes-none 𝓤 H A W 2 (λ _. Triple′.the-row) yes (λ κs x f. refl), (goes-gave-slice 𝓤 H A W 2 1 tt (plain (λ _. f64)), tt))))
 
-meets : {M : Type 1} (𝓤 : URA M) (H : Heap 𝓤) (A : Atoms 𝓤) → Given 𝓤 H A → (mem : Memory → SProp 𝓤) (run-of : Routine → Fun 𝓤) (𝓣 : Tables 𝓤 H) → Meeting 𝓤 (𝓣 .C #app·answered-by) (Callee 𝓤 H A mem run-of)
+meets : {M : Type 1} (𝓤 : URA M) (H : Heap 𝓤) (A : Atoms 𝓤) → Given 𝓤 H A → (mem : Memory → SProp 𝓤) (run-of : Routine → Fun 𝓤) (𝓣 : Tables 𝓤 H) → Meeting 𝓤 (𝓣 .C #app·replies·answered-by) (Callee 𝓤 H A mem run-of)
     → Meets 𝓤 H A f.signature (WpFn 𝓤 H (𝓣 .C) (𝓣 .Λ) walked-fn) (f.spec 𝓤 H A mem run-of)
 meets 𝓤 H A W mem run-of 𝓣 known =
     walk-meets 𝓤 H A f.ended stayed W (all-go 𝓤 H A W mem run-of) (f.clauses 𝓤 H A mem run-of)
     (WpFn 𝓤 H (𝓣 .C) (𝓣 .Λ) walked-fn) (WpFn-mono 𝓤 H (W .laws) 𝓣 walked-fn) (walks 𝓤 H A W mem run-of (𝓣 .C) (𝓣 .Λ) (fmOf 𝓤 H (W .laws) 𝓣) known)
 
-pub take-turn-spec : {M : Type 1} → stated.statement M
+pub answer-plainly-spec : {M : Type 1} → stated.statement M
 unfolding code.routine tablesOf
-take-turn-spec 𝓤 H 𝓜 𝓖 𝓡 =
+answer-plainly-spec 𝓤 H 𝓜 𝓖 𝓡 =
     entered 𝓤 H (tripleOf 𝓤 H (𝓖 .A) f.signature (f.spec 𝓤 H (𝓖 .A) (𝓜 .mem) (𝓡 .run)))
-    (tables 𝓤 H 𝓜 𝓡 code.env .C) (tables 𝓤 H 𝓜 𝓡 code.env .Λ) #app·take-turn code.function (code.unfolded 𝓤 H 𝓜 𝓡)
+    (tables 𝓤 H 𝓜 𝓡 code.env .C) (tables 𝓤 H 𝓜 𝓡 code.env .Λ) #app·lending·answer-plainly code.function (code.unfolded 𝓤 H 𝓜 𝓡)
     (subst (λ (F : Fn). Meets 𝓤 H (𝓖 .A) f.signature (WpFn 𝓤 H (tables 𝓤 H 𝓜 𝓡 code.env .C) (tables 𝓤 H 𝓜 𝓡 code.env .Λ) F) (f.spec 𝓤 H (𝓖 .A) (𝓜 .mem) (𝓡 .run))) (sym function-is) (meets 𝓤 H (𝓖 .A) (givenOf 𝓤 H 𝓜 𝓖) (𝓜 .mem) (𝓡 .run) (tablesOf 𝓤 H 𝓜 (tables 𝓤 H 𝓜 𝓡 code.env))
-    (cited 𝓤 H (Callee 𝓤 H (𝓖 .A) (𝓜 .mem) (𝓡 .run)) 𝓜 𝓡 code.env #app·answered-by g-def.routine code.calls-app·answered-by (g-thm.met 𝓤 H 𝓜 𝓖 𝓡))))
+    (cited 𝓤 H (Callee 𝓤 H (𝓖 .A) (𝓜 .mem) (𝓡 .run)) 𝓜 𝓡 code.env #app·replies·answered-by g-def.routine code.calls-app·replies·answered-by (g-thm.met 𝓤 H 𝓜 𝓖 𝓡))))

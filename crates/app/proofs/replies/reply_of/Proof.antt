@@ -1,8 +1,8 @@
 -- `reply_of` is `replyOf`, case by case.
 use borrow.Author.Needs.{needs}
 use Rattle.app.specs.Reply.{replyOf}
-use Rattle.app.proofs.reply_of.Statement.{statement}
-use Rattle.app.proofs.reply_of.Tie as tie
+use Rattle.app.proofs.replies.reply_of.Statement.{statement}
+use Rattle.app.proofs.replies.reply_of.Tie as tie
 
 returns : tie.Need-returns
 unfolding replyOf

@@ -1,8 +1,8 @@
 -- `finished_at` is `finishedAt`.
 use mathlib.Core.Path.{refl}
 use Rattle.app.specs.Reply.{finishedAt}
-use Rattle.app.proofs.finished_at.Statement.{statement}
-use Rattle.app.proofs.finished_at.Tie as tie
+use Rattle.app.proofs.replies.finished_at.Statement.{statement}
+use Rattle.app.proofs.replies.finished_at.Tie as tie
 
 returns : tie.Need-returns
 unfolding finishedAt
