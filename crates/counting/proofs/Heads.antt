@@ -9,6 +9,7 @@ use borrow.Author.Tests.{le-ltb, ne-eqb}
 use Rattle.triple.specs.declared.Sample.{Sample}
 use Rattle.startup.specs.Points.{timeAt}
 use Rattle.run.specs.declared.Plan.{Plan}
+use Rattle.run.specs.Limits.{wantsSamples}
 use Rattle.run.specs.Formulas.{isDue, isTail}
 use Rattle.rules.specs.Rules.{Course, stores}
 use Rattle.rules.specs.Asked.{clock}
@@ -25,13 +26,13 @@ pub record Running (p : Plan) (e j startups : ℕ) : Type 0 where
 
 -- so many samples are stored, if they are wanted
 unfoldable pub kept : Plan → ℕ → ℕ
-kept p n = cond (p .settings .samples) n 0
+kept p n = cond (wantsSamples (p .settings)) n 0
 
-pub kept-all : (p : Plan) (n : ℕ) → p .settings .samples ≡ true → kept p n ≡ n
+pub kept-all : (p : Plan) (n : ℕ) → wantsSamples (p .settings) ≡ true → kept p n ≡ n
 unfolding kept
 kept-all p n h = ap (λ (b : Bool). cond b n 0) h
 
-pub kept-none : (p : Plan) (n : ℕ) → p .settings .samples ≡ false → kept p n ≡ 0
+pub kept-none : (p : Plan) (n : ℕ) → wantsSamples (p .settings) ≡ false → kept p n ≡ 0
 unfolding kept
 kept-none p n h = ap (λ (b : Bool). cond b n 0) h
 

@@ -7,7 +7,7 @@ use mathlib.Core.Bool.{Bool, true, false, not, cond}
 use mathlib.Core.List.{List, [], _∷_, _++_}
 use lib.Dec.{T, eqb, eqb→eq}
 use lib.Ieee.Fits.{eq→eqb}
-use lib.ListN.{length, length-set, length-append}
+use lib.ListN.{length, length-append}
 use lib.Ieee.{Float}
 use borrow.Author.Tests.{le-leb, eq-eqb, ne-eqb}
 use Rattle.triple.specs.declared.Triple.{Triple}
@@ -15,9 +15,11 @@ use Rattle.triple.specs.declared.State.{State}
 use Rattle.triple.specs.declared.Point.{Point}
 use Rattle.triple.specs.declared.Sample.{Sample}
 use Rattle.triple.specs.Arithmetic.{zeros}
+use Rattle.run.specs.Limits.{numbering}
 use Rattle.run.specs.Samples.{hasRoom, put, putAll}
+use Rattle.run.proofs.Placing.{length-put-all}
 use Rattle.rules.specs.Rules.{Course, asks, stores, ends, exceeds}
-use Rattle.rules.specs.Walk.{Said, question, finished, refused, Call, Result, open-at, over, Stop, settle, turn, walk}
+use Rattle.rules.specs.Walk.{Said, question, finished, refused, Call, Result, open-at, over, Stop, settle, called, walk}
 use Rattle.counting.specs.Paths.{Claims, Each, Always}
 use Rattle.counting.specs.Runs.{Adds, Over, Tells, Going, openAfter, answersIn, IsFinished, Finishes, Roomy}
 
@@ -36,15 +38,6 @@ module _ (c : Claims) (E N : ℕ) (l : Limits c E N) where
   under e n exceeds h = absurd (l .never e n h)
 
 -- ---- rows of samples, one after the other
-length-put : (n : ℕ) (s : Sample) (out : List Float) → length (put n s out) ≡ length out
-unfolding put
-length-put n s out = simp length-set
-
-length-put-all : (n : ℕ) (ss : List Sample) (out : List Float) → length (putAll n ss out) ≡ length out
-unfolding putAll
-length-put-all n [] out = refl
-length-put-all n (s ∷ ss) out = length-put-all (n + 1) ss (put n s out) ∙ length-put n s out
-
 put-more : (n m : ℕ) (ss rs : List Sample) (out : List Float) → n + length ss ≡ m → putAll m rs (putAll n ss out) ≡ putAll n (ss ++ rs) out
 unfolding putAll
 put-more n m [] rs out e = let f : m ≡ n = omega arith in ap (λ (i : ℕ). putAll i rs out) f
@@ -112,7 +105,7 @@ module _ (c : Claims) (E N : ℕ) (l : Limits c E N) where
 
   -- ---- a call, and then the calls that follow
   over-is : (cs : List Call) → Over cs (walk over cs)
-  unfolding Over walk turn
+  unfolding Over walk called
   over-is [] = tt
   over-is (k ∷ cs) = (refl, refl, over-is cs)
 
@@ -137,17 +130,17 @@ module _ (c : Claims) (E N : ℕ) (l : Limits c E N) where
       go (inr a) = subst (Goes i number e n out cs) (sym (a .4)) (x .after, x .adds, (same, refl, a .5, over-is cs))
 
   pub going : (i e n : ℕ) (q : Point) (k : Triple → Course) (cs : List Call) → ((a : Triple) → Always c (e + 1) n (k a)) → Roomy N cs → Going c E i e n cs (walk (open-at i e q k) cs)
-  unfolding Going walk turn Roomy Tells
+  unfolding Going walk called Roomy Tells
   going i e n q k [] h r = tt
   going i e n q k (x ∷ cs) h r =
       go (eqb i (x .number)) (eqb→eq i (x .number)) (λ (f : x .number ≡ i). eq→eqb (sym f))
       (λ (i e n : ℕ) (q : Point) (k : Triple → Course) (h : (a : Triple) → Always c (e + 1) n (k a)). going i e n q k cs h (r .1))
     where
       go : (b : Bool) → (T b → i ≡ x .number) → (x .number ≡ i → T b) → Onward cs
-          → Goes i (x .number) e n (x .out) cs (cond b (settle (k (x .a)) ((i + 1) % 65536) (e + 1) (x .out)) (record { said = refused 8; out = x .out; line = open-at i e q k }))
+          → Goes i (x .number) e n (x .out) cs (cond b (settle (k (x .a)) ((i + 1) % numbering) (e + 1) (x .out)) (record { said = refused 8; out = x .out; line = open-at i e q k }))
       go true y z f =
-          accepted i (x .number) ((i + 1) % 65536) e n (x .out) cs (settle (k (x .a)) ((i + 1) % 65536) (e + 1) (x .out)) (sym (y tt)) f
-          (settled ((i + 1) % 65536) (e + 1) n (k (x .a)) (x .out) (h (x .a)) (r .0))
+          accepted i (x .number) ((i + 1) % numbering) e n (x .out) cs (settle (k (x .a)) ((i + 1) % numbering) (e + 1) (x .out)) (sym (y tt)) f
+          (settled ((i + 1) % numbering) (e + 1) n (k (x .a)) (x .out) (h (x .a)) (r .0))
       go false y z f = (n, adds-none (c .sample) n (x .out), (refl, z, refl, f i e n q k h))
 
   -- ---- whoever answers every question comes to the end

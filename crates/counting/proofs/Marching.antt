@@ -17,6 +17,7 @@ use Rattle.startup.specs.declared.Places.{Places}
 use Rattle.startup.specs.Points.{timeAt}
 use Rattle.run.specs.declared.Plan.{Plan}
 use Rattle.run.specs.declared.Track.{Track}
+use Rattle.run.specs.Limits.{wantsSamples}
 use Rattle.run.specs.Formulas.{leftAt, isDue, isTail, isAtRest, startTrack, trackOn, tailFrom}
 use Rattle.run.specs.Samples.{gridSample, startSamples, stepSample, lastSample}
 use Rattle.rules.specs.Rules.{Course, stores, ends, exceeds, sampled, tail, correct, step, march, fly}
@@ -56,7 +57,7 @@ module _ (p : Plan) (f : Fate) where
       (omega arith, sym (ap (λ (b : Bool). cond b (p .tf) (gridTime p (4 + j + 1))) (eq-eqb (4 + j + 1) (4 + j + 1) refl)))
 
   -- with samples one more question and the last sample
-  tail-stored : (e e' j startups : ℕ) (y : State) (a : Triple) → f ≡ tails (4 + j) → e' ≡ e + 4 → Running p e j startups → p .settings .samples ≡ true
+  tail-stored : (e e' j startups : ℕ) (y : State) (a : Triple) → f ≡ tails (4 + j) → e' ≡ e + 4 → Running p e j startups → wantsSamples (p .settings) ≡ true
       → Always (clockwork p f) (e' + 1) (kept p (4 + j + 1)) (stores (4 + j + 1) (lastSample p y a ∷ []) (ends (p .tf) y (4 + j + 1) startups))
   unfolding lastSample clockwork
   tail-stored e e' j startups y a h g r b =
@@ -67,7 +68,7 @@ module _ (p : Plan) (f : Fate) where
       (sym x) (omega arith) (b, tail-sample j h .0, tail-sample j h .1)
       (landed e (e' + 1) (kept p (4 + j + 1 + 1)) j startups y h (omega arith) refl r)
 
-  tail-bare : (e e' j startups : ℕ) (y : State) → f ≡ tails (4 + j) → e' ≡ e + 4 → Running p e j startups → p .settings .samples ≡ false
+  tail-bare : (e e' j startups : ℕ) (y : State) → f ≡ tails (4 + j) → e' ≡ e + 4 → Running p e j startups → wantsSamples (p .settings) ≡ false
       → Always (clockwork p f) e' (kept p (4 + j + 1)) (ends (p .tf) y (4 + j + 1) startups)
   tail-bare e e' j startups y h g r b =
       let o = kept-none p 1 b in
@@ -77,11 +78,11 @@ module _ (p : Plan) (f : Fate) where
   unfolding tail Always
   tail-always e j startups k u h r =
       rk4-always (clockwork p f) e (kept p (4 + j + 1)) (tailFrom k) (leftAt p (k .t)) _ (λ (y : State) (e' : ℕ) (g : e' ≡ e + 4).
-      cond-always (clockwork p f) e' (kept p (4 + j + 1)) (p .settings .samples) _ _
-      (λ (b : p .settings .samples ≡ true) (a : Triple).
+      cond-always (clockwork p f) e' (kept p (4 + j + 1)) (wantsSamples (p .settings)) _ _
+      (λ (b : wantsSamples (p .settings) ≡ true) (a : Triple).
       subst (λ (m : ℕ). Always (clockwork p f) (e' + 1) (kept p (4 + j + 1)) (stores (m + 1) (lastSample p y a ∷ []) (ends (p .tf) y (m + 1) startups))) (sym u)
       (tail-stored e e' j startups y a h g r b))
-      (λ (b : p .settings .samples ≡ false).
+      (λ (b : wantsSamples (p .settings) ≡ false).
       subst (λ (m : ℕ). Always (clockwork p f) e' (kept p (4 + j + 1)) (ends (p .tf) y (m + 1) startups)) (sym u) (tail-bare e e' j startups y h g r b)))
 
   -- ---- a step: one answer, and at most one more for each pass
@@ -118,15 +119,15 @@ module _ (p : Plan) (f : Fate) where
       → Always (clockwork p f) e (kept p (4 + (j + 1) + 1)) k → Always (clockwork p f) e (kept p (4 + j + 1)) (sampled p (4 + j + 1) (s ∷ []) k)
   unfolding sampled clockwork
   commit-always e j s k h o a =
-      cond-always (clockwork p f) e (kept p (4 + j + 1)) (p .settings .samples) _ _
-      (λ (b : p .settings .samples ≡ true).
+      cond-always (clockwork p f) e (kept p (4 + j + 1)) (wantsSamples (p .settings)) _ _
+      (λ (b : wantsSamples (p .settings) ≡ true).
       let x = kept-all p (4 + j + 1) b in
       let z = kept-all p (4 + (j + 1) + 1) b in
       let i : 4 + (j + 1) ≡ 4 + j + 1 = omega arith in
       stored (clockwork p f) e (kept p (4 + j + 1)) (kept p (4 + (j + 1) + 1)) (4 + j + 1) s k (sym x) (omega arith)
-      (subst (λ (m : ℕ). (p .settings .samples ≡ true) × (m ≤ stepsOf f) × (s .t ≡ sampleTime p f m)) i
+      (subst (λ (m : ℕ). (wantsSamples (p .settings) ≡ true) × (m ≤ stepsOf f) × (s .t ≡ sampleTime p f m)) i
       (let g = on-grid p f (4 + (j + 1)) (s .t) o (h ∙ clock-grid p (j + 1)) in (b, g .0, g .1))) a)
-      (λ (b : p .settings .samples ≡ false).
+      (λ (b : wantsSamples (p .settings) ≡ false).
       subst (λ (m : ℕ). Always (clockwork p f) e m k) (kept-none p (4 + (j + 1) + 1) b ∙ sym (kept-none p (4 + j + 1) b)) a)
 
   march-always : (left e j startups : ℕ) (k : Track) (a : List Triple) → k .steps ≡ 4 + j → k .t ≡ clock p j → f ≡ fateFrom left p (k .t) (4 + j) → Running p e j startups
@@ -177,14 +178,14 @@ module _ (p : Plan) (f : Fate) where
 fly-always : (p : Plan) (startups : ℕ) (x : Places) (a : List Triple) (e : ℕ) → Started p e startups → Always (clockwork p (fateOf p)) e 0 (fly p startups x a)
 unfolding fly sampled Always Each clockwork startTrack startSamples gridSample fateOf gridTime clock
 fly-always p startups x a e s =
-    cond-always (clockwork p f) e 0 (p .settings .samples) _ _
-    (λ (b : p .settings .samples ≡ true). (refl, (on 0 b (omega arith) refl, (on 1 b (omega arith) refl, (on 2 b (omega arith) refl, (on 3 b (omega arith) refl, (on 4 b (omega arith) refl, tt))))), subst (λ (n : ℕ). Always (clockwork p f) e n steps) (kept-all p 5 b) marched))
-    (λ (b : p .settings .samples ≡ false). subst (λ (n : ℕ). Always (clockwork p f) e n steps) (kept-none p 5 b) marched)
+    cond-always (clockwork p f) e 0 (wantsSamples (p .settings)) _ _
+    (λ (b : wantsSamples (p .settings) ≡ true). (refl, (on 0 b (omega arith) refl, (on 1 b (omega arith) refl, (on 2 b (omega arith) refl, (on 3 b (omega arith) refl, (on 4 b (omega arith) refl, tt))))), subst (λ (n : ℕ). Always (clockwork p f) e n steps) (kept-all p 5 b) marched))
+    (λ (b : wantsSamples (p .settings) ≡ false). subst (λ (n : ℕ). Always (clockwork p f) e n steps) (kept-none p 5 b) marched)
   where
     f : Fate
     f = fateOf p
 
-    on : (i : ℕ) {t : Float} → p .settings .samples ≡ true → i ≤ 4 → t ≡ gridTime p i → (p .settings .samples ≡ true) × (i ≤ stepsOf f) × (t ≡ sampleTime p f i)
+    on : (i : ℕ) {t : Float} → wantsSamples (p .settings) ≡ true → i ≤ 4 → t ≡ gridTime p i → (wantsSamples (p .settings) ≡ true) × (i ≤ stepsOf f) × (t ≡ sampleTime p f i)
     on i {t} b l h = let g = on-grid p f i t (nearer i 4 f l (ahead (p .settings .«max_steps» - 4) p (timeAt (p .t0) (p .h) 8) 4)) h in (b, g .0, g .1)
 
     steps : Course

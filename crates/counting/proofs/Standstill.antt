@@ -17,7 +17,7 @@ use Rattle.run.specs.Plan.{directionOf, planOf, isTooNear}
 use Rattle.whole.proofs.Short.{Clear, round-clear}
 use Rattle.whole.proofs.Quotient.{round-neg}
 use Rattle.counting.specs.Starred.{isFinite, NoSpan, NoStep}
-use Rattle.counting.proofs.Starts.{too-near}
+use Rattle.counting.proofs.Starts.{near-start}
 
 -- ---- zeros
 zero-round : (s : Bool) (c : ℕ) → 0 < c → round binary64 s 0 c ≡ fin s 0 (pos 0)
@@ -130,7 +130,7 @@ still-near s t0 f n =
     go false e k = no-quotient h k e
 
 pub no-span : NoSpan
-no-span s t0 r0 v0 l f n = too-near s t0 t0 r0 v0 l (still-near s t0 f n)
+no-span s t0 r0 v0 l f n = near-start s t0 t0 r0 v0 l (still-near s t0 f n)
 
 -- ---- no step
 zero-step : (x : Float) (t : Bool) → eq x nought ≡ true → eq (mul binary64 (absolute x) (fin t 1 (pos 0))) nought ≡ true
@@ -152,6 +152,6 @@ pub no-step : NoStep
 unfolding isTooNear planOf
 no-step s t0 tf r0 v0 l z =
     let w = way-is t0 tf in
-    too-near s t0 tf r0 v0 l
+    near-start s t0 tf r0 v0 l
     (ap (λ (b : Bool). b || lt (absolute (div binary64 (sub binary64 tf t0) (mul binary64 (absolute (s .h)) (directionOf t0 tf)))) (ofInt binary64 (pos 8)))
     (subst (λ (x : Float). eq (mul binary64 (absolute (s .h)) x) nought ≡ true) (sym (w .1)) (zero-step (s .h) (w .0) z)))

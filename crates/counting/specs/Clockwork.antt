@@ -9,6 +9,7 @@ use Rattle.triple.specs.declared.Triple.{Triple}
 use Rattle.triple.specs.Arithmetic.{nought}
 use Rattle.startup.specs.Points.{timeAt}
 use Rattle.run.specs.declared.Plan.{Plan}
+use Rattle.run.specs.Limits.{wantsSamples}
 use Rattle.run.specs.Formulas.{isDue, isTail}
 use Rattle.rules.specs.Rules.{integrate}
 use Rattle.rules.specs.Asked.{clock}
@@ -45,7 +46,7 @@ plainSteps (runs-out n) = n - 4
 -- T(4+d): RK4's four questions, "with samples one more"
 unfoldable pub tailAnswers : Plan → Fate → ℕ
 tailAnswers p (arrives t n) = 0
-tailAnswers p (tails n) = 4 + cond (p .settings .samples) 1 0
+tailAnswers p (tails n) = 4 + cond (wantsSamples (p .settings)) 1 0
 tailAnswers p (runs-out n) = 0
 
 -- "Accepted answers lie from 41 + 8S + P + T(4+d) to 41 + 8S + P(1+C) + T(4+d), where S is the startup passes made."
@@ -70,7 +71,7 @@ pub record Counted (p : Plan) (f : Fate) (e n startups : ℕ) : Type 0 where
   pub limited : startups ≤ p .settings .«max_startup_iters»
   pub at-least : least p f startups ≤ e
   pub at-most : e ≤ most p f startups
-  pub samples : n ≡ cond (p .settings .samples) (stepsOf f + 1) 0
+  pub samples : n ≡ cond (wantsSamples (p .settings)) (stepsOf f + 1) 0
   pub exactly : NeverStops p → (startups ≡ p .settings .«max_startup_iters») × (e ≡ most p f startups)
 
 -- the points 4 to 8 of the startup, then the clock
@@ -97,7 +98,7 @@ RunsOut (runs-out m) = Unit {0}
 unfoldable pub clockwork : Plan → Fate → Claims
 clockwork p f =
     record {
-      sample = λ (n : ℕ) (t : Float). (p .settings .samples ≡ true) × (n ≤ stepsOf f) × (t ≡ sampleTime p f n);
+      sample = λ (n : ℕ) (t : Float). (wantsSamples (p .settings) ≡ true) × (n ≤ stepsOf f) × (t ≡ sampleTime p f n);
       finish = λ (e n : ℕ) (t : Float) (steps startups : ℕ). Ended p f t steps × Counted p f e n startups;
       excess = λ (e n : ℕ). RunsOut f × ((startups : ℕ) × Counted p f e n startups);
     }

@@ -11,9 +11,11 @@ use lib.ListN.{length}
 use lib.Ieee.{Float}
 use Rattle.triple.specs.declared.Triple.{Triple}
 use Rattle.triple.specs.declared.Sample.{Sample}
+use Rattle.triple.specs.Sampled.{sampleWidth}
 use Rattle.refusals.specs.Numbers.{numberOf}
 use Rattle.refusals.specs.declared.Refusal.the-variants.{NoQuestion, NotThatQuestion}
 use Rattle.run.specs.declared.Settings.{Settings}
+use Rattle.run.specs.Limits.{wantsSamples}
 use Rattle.run.specs.Samples.{putAll}
 use Rattle.gauss_jackson.specs.Answers.{started}
 use Rattle.rules.specs.Walk.{Said, question, finished, refused, told, Call, Result}
@@ -76,11 +78,11 @@ Finishes (r ∷ rs) = IsFinished (r .said) ⊎ Finishes rs
 -- every buffer has room for n samples
 unfoldable pub Roomy : ℕ → List Call → Type 0
 Roomy n [] = Unit {0}
-Roomy n (c ∷ cs) = (10 * n ≤ length (c .out)) × Roomy n cs
+Roomy n (c ∷ cs) = (sampleWidth * n ≤ length (c .out)) × Roomy n cs
 
 -- K + 1 samples, if they are wanted
 unfoldable pub roomFor : Settings → (span step : ℕ) → ℕ
-roomFor s span step = cond (s .samples) (stepsFor span step + 1) 0
+roomFor s span step = cond (wantsSamples s) (stepsFor span step + 1) 0
 
 pub record FinishesOnTime (s : Settings) (t0 tf : Float) (z0 zf hz : ℤ) (r0 v0 : Triple) (cs : List Call) : Type 0 where
   pub first : told (started s t0 tf r0 v0 .outcome) ≡ question 0 (record { t = t0; r = r0; v = v0 })

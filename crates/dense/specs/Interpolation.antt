@@ -7,6 +7,7 @@ use mathlib.Core.List.{List, [], _∷_}
 use lib.Dec.{ltb, eqb}
 use lib.ListN.{length, set}
 use lib.Ieee.{Float, lt}
+use Rattle.triple.specs.Sampled.{sampleWidth}
 use Rattle.refusals.specs.declared.Refusal.the-variants.{NoDenseOutput, InterpOutOfBounds, Shape}
 use Rattle.refusals.specs.Numbers.{numberOf}
 use Rattle.quintic.specs.declared.Between.{Between}
@@ -29,7 +30,7 @@ numberTold (Refused e) = numberOf e
 -- ---- what is told
 -- 9
 unfoldable pub isMisshapen : List Float → List Float → List Float → Bool
-isMisshapen times samples out = not (eqb (length samples % 10) 0) || ltb (length out) (width * length times)
+isMisshapen times samples out = not (eqb (length samples % sampleWidth) 0) || ltb (length out) (width * length times)
 
 -- 4
 unfoldable pub isOutside : Ends → Float → Bool

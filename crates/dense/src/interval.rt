@@ -49,7 +49,7 @@ fn last_interval(samples: &[f64]) -> usize
 }
 
 fn is_short(forward: bool, time: f64, t: f64) -> bool
-    ensures { λ b. ⌜ b ≡ isShort isForward time t ⌝ }
+    ensures { λ b. ⌜ b ≡ isShort forward time t ⌝ }
 {
     if forward {
         return time < t;
@@ -89,7 +89,7 @@ fn first_earlier(samples: &[f64], t: f64) -> usize
 
 // The first sample whose time fails the test, or the count where none does. One after the other, since a table may stand in any order.
 fn first_past(forward: bool, samples: &[f64], t: f64) -> usize
-    ensures { λ n. ⌜ n ≡ firstPast isForward (now (samples .entry)) t (countOf (now (samples .entry))) 0 ⌝ }
+    ensures { λ n. ⌜ n ≡ firstPast forward (now (samples .entry)) t (countOf (now (samples .entry))) 0 ⌝ }
 {
     if forward {
         return first_later(samples, t);

@@ -13,7 +13,7 @@ ghost use Rattle.dense.specs.Interpolation.{isMisshapen, isOutside, anyO
 fn is_misshapen(times: &[f64], samples: &[f64], out: &[f64]) -> bool
     ensures { λ b. ⌜ b ≡ isMisshapen (now (times .entry)) (now (samples .entry)) (now (out .entry)) ⌝ }
 {
-    if samples.len() % 10 != 0 {
+    if samples.len() % table::SAMPLE_WIDTH != 0 {
         return true;
     }
     out.len() / WIDTH < times.len()

@@ -20,6 +20,7 @@ use Rattle.startup.specs.Points.{pointAt, firstPlaces, placed}
 use Rattle.startup.specs.Passes.{passPlaces, widened, calmAt, isSettled}
 use Rattle.run.specs.declared.Plan.{Plan}
 use Rattle.run.specs.declared.Track.{Track}
+use Rattle.run.specs.Limits.{wantsSamples}
 use Rattle.run.specs.Formulas.{leftAt, isDue, isTail, isAtRest, startTrack, trackOn, stepPoint, tailFrom, finalPoint}
 use Rattle.run.specs.Samples.{startSamples, stepSample, lastSample}
 use Rattle.rules.specs.Rules.{Course, asks, stores, ends, exceeds, rk4, forward, backward, others, survey, renew, passes, sampled, tail, correct, step, march, fly, integrate}
@@ -57,7 +58,7 @@ module _ (p : Plan) where
 
   sampled-fair : (n m i : ℕ) (ss : List Sample) (c : Course) → Fair p n c → length ss + n ≤ m → Fair p m (sampled p i ss c)
   unfolding sampled
-  sampled-fair n m i ss c f h = cond-fair m (p .settings .samples) (stores i ss c) c (stores-fair n m i ss c f h) (wider n m c (omega arith) f)
+  sampled-fair n m i ss c f h = cond-fair m (wantsSamples (p .settings)) (stores i ss c) c (stores-fair n m i ss c f h) (wider n m c (omega arith) f)
 
   rk4-fair : (n : ℕ) (q : Point) (h : Float) (k : State → Course) → Listed p (q .t) → Listed p (add binary64 (q .t) (half h)) → Listed p (add binary64 (q .t) h)
       → ((e : State) → Fair p 5 (k e)) → Fair p n (rk4 q h k)
@@ -121,7 +122,7 @@ module _ (p : Plan) where
       rk4-fair 0 (tailFrom k) (leftAt p (k .t)) _ (on-tail n e)
       (half-tail n (ap (λ (t : Float). add binary64 t (half (sub binary64 (p .tf) t))) e))
       (past-tail n (ap (λ (t : Float). add binary64 t (sub binary64 (p .tf) t)) e))
-      (λ (y : State). cond-fair 5 (p .settings .samples) _ _
+      (λ (y : State). cond-fair 5 (wantsSamples (p .settings)) _ _
       (asks-fair 5 (finalPoint p y) _ (at-end refl) (λ (b : Triple).
       stores-fair 0 5 (k .steps + 1) (lastSample p y b ∷ []) (ends (p .tf) y (k .steps + 1) s) (ends-fair 0 (p .tf) y (k .steps + 1) s) (omega arith)))
       (ends-fair 5 (p .tf) y (k .steps + 1) s))

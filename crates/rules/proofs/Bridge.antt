@@ -18,7 +18,7 @@ use Rattle.run.specs.declared.Body.{Body}
 use Rattle.run.specs.declared.waiting.Stage.the-variants.{First}
 use Rattle.run.specs.declared.waiting.Waiting.{Waiting}
 use Rattle.run.specs.declared.waiting.Waiting.the-variants.{Pass, Step, Tail}
-use Rattle.run.specs.Limits.{areWithinLimits}
+use Rattle.run.specs.Limits.{numbering, areWithinLimits, wantsSamples}
 use Rattle.run.specs.Formulas.{isDue, isTail, startTrack}
 use Rattle.run.specs.Waiting.{stageFrom, waitingAt, waitsAt}
 use Rattle.run.specs.Moves.{freshBody, passBegun, passMade, launched, predicted}
@@ -36,12 +36,12 @@ use Rattle.rules.specs.Walk.{refused, told, over, settle}
 use Rattle.rules.proofs.Rest.{sweeping, passed, renewing, loop, due, later, restAt, rest, opened, lineOf, seen}
 use Rattle.rules.proofs.Loops.{renewing-is, passes-on, march-on, tail-is, step-is}
 
-pub numbered-on : (c : Count) → c .number ≡ c .evals % 65536 → nextCount c .number ≡ nextCount c .evals % 65536
+pub numbered-on : (c : Count) → c .number ≡ c .evals % numbering → nextCount c .number ≡ nextCount c .evals % numbering
 unfolding nextCount
 numbered-on c h = omega arith
 
 -- ---- a question is asked: the line stands open at it
-pub asked-is : (w : Waiting) (c : Count) (b : Body) (out : List Float) → areWithinLimits (b .plan .settings) ≡ true → c .number ≡ c .evals % 65536 → Counts w (c .evals) b
+pub asked-is : (w : Waiting) (c : Count) (b : Body) (out : List Float) → areWithinLimits (b .plan .settings) ≡ true → c .number ≡ c .evals % numbering → Counts w (c .evals) b
     → seen (quiet (asking w c b) out) ≡ settle (restAt w b) (c .number) (c .evals) out
 unfolding seen asking questionOf told settle lineOf rest restAt opened
 asked-is w c b out l n h = simp (sound-at w c b l n h, read w c)
@@ -60,7 +60,7 @@ pub sampling-is : (i : ℕ) (ss : List Sample) (b : Body) (out : List Float) (x 
     → ((out' : List Float) → seen (quiet x out') ≡ settle t n e out')
     → seen (sampling i ss b out x) ≡ settle (sampled (b .plan) i ss t) n e out
 unfolding sampling sampled settle told
-sampling-is i ss b out x t n e f = wanted (b .plan .settings .samples)
+sampling-is i ss b out x t n e f = wanted (wantsSamples (b .plan .settings))
   where
     room : (d : Bool)
         → seen (cond d (record { got = x; out = putAll i ss out }) (quiet (ending (Refused SampleRoom)) out))
@@ -74,12 +74,12 @@ sampling-is i ss b out x t n e f = wanted (b .plan .settings .samples)
     wanted true = room (hasRoom i (length ss) out)
     wanted false = f out
 
-pub wanted-is : (p : Plan) (i : ℕ) (ss : List Sample) (t : Course) → p .settings .samples ≡ true → sampled p i ss t ≡ stores i ss t
+pub wanted-is : (p : Plan) (i : ℕ) (ss : List Sample) (t : Course) → wantsSamples (p .settings) ≡ true → sampled p i ss t ≡ stores i ss t
 unfolding sampled
 wanted-is p i ss t e = ap (λ (d : Bool). cond d (stores i ss t) t) e
 
 -- ---- the head of the steps
-module _ (c : Count) (b : Body) (l : areWithinLimits (b .plan .settings) ≡ true) (n : c .number ≡ c .evals % 65536) where
+module _ (c : Count) (b : Body) (l : areWithinLimits (b .plan .settings) ≡ true) (n : c .number ≡ c .evals % numbering) where
   onward-is : SteppingBody 0 (c .evals) b → (out : List Float) → seen (quiet (onward c b) out) ≡ settle (loop b) (c .number) (c .evals) out
   unfolding onward settle solutionOf told predicted
   onward-is s out =
@@ -110,7 +110,7 @@ module _ (c : Count) (b : Body) (l : areWithinLimits (b .plan .settings) ≡ tru
   step-ended-is out s = sampling-is (b .track .steps) (stepSample (b .track) (b .a) ∷ []) b out (onward c b) (loop b) (c .number) (c .evals) (onward-is s)
 
 -- ---- the end of the startup, the head of its passes, and the end of one
-module _ (c : Count) (b : Body) (l : areWithinLimits (b .plan .settings) ≡ true) (n : c .number ≡ c .evals % 65536) (s : Swept (c .evals) b) where
+module _ (c : Count) (b : Body) (l : areWithinLimits (b .plan .settings) ≡ true) (n : c .number ≡ c .evals % numbering) (s : Swept (c .evals) b) where
   startup-ended-is : (out : List Float) → (b .«startup_iters» ≡ 0 → b .plan .settings .«max_startup_iters» ≡ 0)
       → seen (startupEnded c b out) ≡ settle (fly (b .plan) (b .«startup_iters») (b .places) (b .a)) (c .number) (c .evals) out
   unfolding startupEnded fly launched startTrack
@@ -128,7 +128,7 @@ module _ (c : Count) (b : Body) (l : areWithinLimits (b .plan .settings) ≡ tru
       go true q = rw (renewing-is 0 (passBegun b)) (asked-is (Pass 0) c (passBegun b) out l n (pass-first (c .evals) b s (ltb-true _ _ q)))
       go false q = let h : b .plan .settings .«max_startup_iters» ≤ b .«startup_iters» = ltb-false _ _ q in startup-ended-is out (λ z. omega arith)
 
-pub pass-ended-is : (c : Count) (b : Body) (out : List Float) → areWithinLimits (b .plan .settings) ≡ true → c .number ≡ c .evals % 65536 → Swept (c .evals) (passMade b)
+pub pass-ended-is : (c : Count) (b : Body) (out : List Float) → areWithinLimits (b .plan .settings) ≡ true → c .number ≡ c .evals % numbering → Swept (c .evals) (passMade b)
     → seen (passEnded c b out) ≡ settle (passed b (b .a) (b .widest)) (c .number) (c .evals) out
 unfolding passEnded passMade
 pass-ended-is c b out l n s = go (isSettled (b .plan .settings .«startup_tol») (b .widest))

@@ -15,13 +15,14 @@ use Rattle.run.specs.declared.waiting.Stage.{Stage}
 use Rattle.run.specs.declared.waiting.Stage.the-variants.{First, Second, Third, Fourth}
 use Rattle.run.specs.declared.waiting.Waiting.{Waiting}
 use Rattle.run.specs.declared.waiting.Waiting.the-variants.{Epoch, Forward, Backward, Survey, Pass, Step, Tail, TailSample, Ended, Unknown}
+use Rattle.run.specs.Limits.{wantsSamples}
 use Rattle.run.specs.Formulas.{finalPoint}
 use Rattle.run.specs.Waiting.{waitsAt}
 use Rattle.run.specs.Questions.{questionAt}
 use Rattle.run.specs.Moves.{surveyed, kept, movedOn, movedBack, renewed, committed, endOfTail}
 use Rattle.run.specs.Samples.{stepSample, lastSample}
 use Rattle.run.specs.Sound.{isSound}
-use Rattle.gauss_jackson.specs.Answers.{Turn}
+use Rattle.gauss_jackson.specs.Answers.{Given}
 use Rattle.rules.specs.Rules.{Course, asks, stores, ends, exceeds, forward, backward, others, survey, renew, passes, sampled, tail, correct, step, march, fly}
 use Rattle.rules.specs.Walk.{told, Line, open-at, over, Stop}
 
@@ -73,7 +74,7 @@ last b e x = stores (b .track .steps + 1) (lastSample (b .plan) e x ∷ []) (end
 
 unfoldable pub tailed : Body → State → Course
 tailed b e =
-    cond (b .plan .settings .samples)
+    cond (wantsSamples (b .plan .settings))
     (asks (finalPoint (b .plan) e) (last b e))
     (ends (b .plan .tf) e (b .track .steps + 1) (b .«startup_iters»))
 
@@ -137,5 +138,5 @@ unfoldable pub lineOf : Run → Line
 lineOf run = cond (isSound run) (opened (run .mark .count .number) (run .mark .count .evals) (rest run)) over
 
 -- what is seen of a call
-unfoldable pub seen : Turn → Stop
+unfoldable pub seen : Given → Stop
 seen t = record { said = told (t .got .outcome); out = t .out; line = lineOf (t .got .run) }

@@ -12,7 +12,7 @@ use borrow.Author.Tests.{le-ltb}
 use Rattle.dense.specs.Table.{countOf, timeOf}
 use Rattle.dense.specs.Intervals.{isForward, reached, firstPast, heldTo, isShort, walkOn, intervalOf, walkedTo}
 use Rattle.sentences.specs.Sentences.{Apart, AtInnerSample}
-use Rattle.dense.proofs.Turns.{past-on, past-here, walk-on, walk-here}
+use Rattle.dense.proofs.Loops.{past-on, past-here, walk-on, walk-here}
 use Rattle.sentences.proofs.Strict.{short-reaches, short-fails, short-own, not-short}
 
 -- ---- n turns of each search

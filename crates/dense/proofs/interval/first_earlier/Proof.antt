@@ -5,7 +5,7 @@ use mathlib.Core.Bool.{true, false}
 use mathlib.Core.Path.{_≡_, sym, _∙_}
 use borrow.Author.Needs.{needs}
 use borrow.Author.Tests.{not-true, not-false}
-use Rattle.dense.proofs.Turns.{earlier-on, earlier-here, past-end}
+use Rattle.dense.proofs.Loops.{earlier-on, earlier-here, past-end}
 use Rattle.dense.specs.Intervals.{firstPast}
 use Rattle.dense.proofs.interval.first_earlier.Statement.{statement}
 use Rattle.dense.proofs.interval.first_earlier.Tie as tie

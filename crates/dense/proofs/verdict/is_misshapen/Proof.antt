@@ -1,6 +1,6 @@
 -- `is_misshapen` is `isMisshapen`: the quotient says what the product says.
 use borrow.Author.Tests.{eq-eqb, ne-eqb}
-use Rattle.dense.proofs.Turns.{room-is}
+use Rattle.dense.proofs.Loops.{room-is}
 use Rattle.dense.specs.Interpolation.{isMisshapen}
 use Rattle.dense.proofs.verdict.is_misshapen.Statement.{statement}
 use Rattle.dense.proofs.verdict.is_misshapen.Tie as tie

@@ -4,7 +4,7 @@ use mathlib.Core.Path.{_≡_, refl, sym, _∙_}
 use native.Mathlib.Omega.{arith}
 use borrow.Author.Needs.{needs}
 use lib.ListN.{length, drop}
-use Rattle.dense.proofs.Turns.{put-on, put-end}
+use Rattle.dense.proofs.Loops.{put-on, put-end}
 use Rattle.dense.specs.Interpolation.{writtenAll}
 use Rattle.dense.proofs.writing.write_all.Statement.{statement}
 use Rattle.dense.proofs.writing.write_all.Tie as tie
