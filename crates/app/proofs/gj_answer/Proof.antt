@@ -48,7 +48,7 @@ use Rattle.gauss_jackson.specs.Answers.{answered}
 use Rattle.fastpath.specs.Looking.{lookedAt}
 use Rattle.fastpath.specs.Moving.{keptStep}
 use Rattle.app.specs.Reply.{replyOf, triedReply, triedRun, steppedReply, steppedRun}
-use Rattle.app.proofs.Replies.{again-reply, on-reply}
+use Rattle.app.proofs.SameReply.{again-reply, on-reply}
 use Rattle.run.specs.declared.Body.{Body}
 use Rattle.fastpath.specs.declared.Look.{Look}
 use Rattle.run.specs.declared.Mark.{Mark}
