@@ -59,7 +59,13 @@ fn end_step(count: Count, b: Body, out: &mut [f64]) -> Answered
     if !samples::has_place(wanted, b.track.steps, out.len()) {
         return outcomes::end(Outcome::Refused(Refusal::SampleRoom));
     }
-    samples::keep_sample(wanted, b.track.steps, samples::step_sample(b), out);
+    let window = b.a;
+    samples::keep_sample(
+        wanted,
+        b.track.steps,
+        samples::step_sample(b.track, window),
+        out,
+    );
     onward(count, b)
 }
 

@@ -109,10 +109,6 @@ tried b x = withTrial b (record { state = x; fixed = b .trial .fixed })
 unfoldable pub committed : Body → State → Triple → Body
 committed b y a = withTrack (withA b (slid (b .a) a)) (trackOn (b .plan) (b .track) y a)
 
--- the newest point is k, with the acceleration a
-unfoldable pub arrived : Body → Track → Triple → Body
-arrived b k a = withTrack (withA b (slid (b .a) a)) k
-
 -- the end of the tail: "RK4 over rem"
 unfoldable pub endOfTail : Body → Triple → State
 endOfTail b a = endOf (tailFrom (b .track)) (leftAt (b .plan) (b .track .t)) (b .slopes) a

@@ -1,16 +1,17 @@
 -- What the code needs to know of a sound run, so that no index runs out and no count wraps: the `requires` of private helpers. No promise to a
 -- caller cites this file.
 use Prim.Native.Nat.{ℕ, _≤_, _<_}
+use Rattle.run.specs.declared.Settings.{Settings}
 use Rattle.run.specs.declared.Body.{Body}
 use Rattle.run.specs.declared.waiting.Waiting.{Waiting}
 use Rattle.run.specs.declared.waiting.Waiting.the-variants.{Epoch, Forward, Backward, Survey, Pass, Step, Tail, TailSample, Ended, Unknown}
 use Rattle.run.specs.Limits.{maxPasses, maxSteps, ample}
 
 -- the settings' limits, as numbers
-pub record Small (b : Body) : Type 0 where
-  pub startups : b .plan .settings .«max_startup_iters» ≤ maxPasses
-  pub passes : b .plan .settings .«max_corrector_iters» ≤ maxPasses
-  pub steps : b .plan .settings .«max_steps» ≤ maxSteps
+pub record Small (s : Settings) : Type 0 where
+  pub startups : s .«max_startup_iters» ≤ maxPasses
+  pub passes : s .«max_corrector_iters» ≤ maxPasses
+  pub steps : s .«max_steps» ≤ maxSteps
 
 abbrev pub Ready : Waiting → Body → Type 0
 Ready Epoch b = Unit {0}

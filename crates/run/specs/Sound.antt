@@ -4,6 +4,8 @@
 use Prim.Native.Nat.{ℕ, _+_, _-_, _*_, _%_}
 use mathlib.Core.Bool.{Bool, false, not, _&&_, _||_, cond}
 use lib.Dec.{eqb, ltb, leb}
+use Rattle.run.specs.declared.Settings.{Settings}
+use Rattle.run.specs.declared.Mark.{Mark}
 use Rattle.run.specs.declared.Run.{Run}
 use Rattle.run.specs.declared.Body.{Body}
 use Rattle.run.specs.declared.waiting.Stage.{Stage}
@@ -35,20 +37,22 @@ unfoldable pub passCounts : ℕ → ℕ → Body → Bool
 passCounts i e b =
     ltb (b .«startup_iters») (b .plan .settings .«max_startup_iters») && eqb (b .track .steps) 0 && pointCounts i (41 + 8 * b .«startup_iters») e
 
--- S "from 1, or 0 where max_startup_iters is 0, to max_startup_iters"
-unfoldable pub isStartedUp : Body → Bool
-isStartedUp b =
-    leb (b .«startup_iters») (b .plan .settings .«max_startup_iters»)
-    && cond (eqb (b .«startup_iters») 0) (eqb (b .plan .settings .«max_startup_iters») 0) (not false)
+-- S startup passes, "from 1, or 0 where max_startup_iters is 0, to max_startup_iters", which is M
+unfoldable pub isStartedUp : (S M : ℕ) → Bool
+isStartedUp S M = leb S M && cond (eqb S 0) (eqb M 0) (not false)
 
 -- n steps, 4 <= n < max_steps, and k answers in the open one: e from 41 + 8S + k + (n-4) to 41 + 8S + k + (n-4)(1+C)
-unfoldable pub stepCounts : ℕ → ℕ → Body → Bool
-stepCounts k e b =
-    isStartedUp b
-    && leb 4 (b .track .steps)
-    && ltb (b .track .steps) (b .plan .settings .«max_steps»)
-    && leb (41 + 8 * b .«startup_iters» + k + (b .track .steps - 4)) e
-    && leb e (41 + 8 * b .«startup_iters» + k + (b .track .steps - 4) * (1 + b .plan .settings .«max_corrector_iters»))
+unfoldable pub stepCounts : (k e : ℕ) → Settings → (S n : ℕ) → Bool
+stepCounts k e s S n =
+    isStartedUp S (s .«max_startup_iters»)
+    && leb 4 n
+    && ltb n (s .«max_steps»)
+    && leb (41 + 8 * S + k + (n - 4)) e
+    && leb e (41 + 8 * S + k + (n - 4) * (1 + s .«max_corrector_iters»))
+
+-- the same of a body
+abbrev pub bodyCounts : (k e : ℕ) → Body → Bool
+bodyCounts k e b = stepCounts k e (b .plan .settings) (b .«startup_iters») (b .track .steps)
 
 unfoldable pub hasCounts : Waiting → ℕ → Body → Bool
 hasCounts Epoch e b = eqb e 0 && isIdle b
@@ -56,9 +60,9 @@ hasCounts (Forward i s) e b = forwardCounts i s e && isIdle b
 hasCounts (Backward i s) e b = backwardCounts i s e && isIdle b
 hasCounts (Survey i) e b = pointCounts i 33 e && isIdle b
 hasCounts (Pass i) e b = passCounts i e b
-hasCounts (Step c) e b = leb c (b .plan .settings .«max_corrector_iters») && stepCounts c e b
-hasCounts (Tail s) e b = stepCounts (stageNumber s) e b
-hasCounts TailSample e b = wantsSamples (b .plan .settings) && stepCounts 4 e b
+hasCounts (Step c) e b = leb c (b .plan .settings .«max_corrector_iters») && bodyCounts c e b
+hasCounts (Tail s) e b = bodyCounts (stageNumber s) e b
+hasCounts TailSample e b = wantsSamples (b .plan .settings) && bodyCounts 4 e b
 hasCounts Ended e b = false
 hasCounts Unknown e b = false
 
@@ -67,3 +71,13 @@ isSound run =
     areWithinLimits (run .body .plan .settings)
     && eqb (run .mark .count .number) (run .mark .count .evals % numbering)
     && hasCounts (waitsAt (run .mark)) (run .mark .count .evals) (run .body)
+
+-- a sound run waits at a step's end: by the parts that this takes, m its mark, s its settings, S startup passes and n steps
+unfoldable pub isOpenStep : Mark → Settings → (S n : ℕ) → Bool
+isOpenStep m s S n =
+    eqb (m .at) 6
+    && leb (m .stage) 3
+    && areWithinLimits s
+    && eqb (m .count .number) (m .count .evals % numbering)
+    && leb (m .index) (s .«max_corrector_iters»)
+    && stepCounts (m .index) (m .count .evals) s S n

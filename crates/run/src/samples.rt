@@ -3,6 +3,7 @@ ghost use mathlib.Core.Path.{_≡_};
 ghost use Prim.Native.Nat.{_≤_};
 ghost use Rattle.run.specs.Samples.{hasPlace, keptSample, gridSample, keptPoint, keptPoints, stepSample, lastSample};
 use crate::Body;
+use crate::Track;
 use triple::Sample;
 use triple::Triple;
 use triple::nine;
@@ -77,15 +78,14 @@ pub fn keep_points(wanted: bool, b: Body, out: &mut [f64])
     keep_point(wanted, b, 8, out);
 }
 
-// The newest point.
-pub fn step_sample(b: Body) -> Sample
-    ensures { λ s. ⌜ s ≡ stepSample (b .track) (b .a) ⌝ }
+// The newest point, with the newest of the accelerations.
+pub fn step_sample(track: Track, window: [Triple; 9]) -> Sample
+    ensures { λ s. ⌜ s ≡ stepSample track window ⌝ }
 {
-    let window = b.a;
-    let r = b.track.state.r;
-    let v = b.track.state.v;
+    let r = track.state.r;
+    let v = track.state.v;
     Sample {
-        t: b.track.t,
+        t: track.t,
         r,
         v,
         a: nine::element(window, 8),

@@ -49,16 +49,16 @@ returns-10 c = rw (c .before .before .w4 .given .1) (c .pass-counts .ensures)
 
 returns-11 : tie.Need-returns-11
 unfolding hasCounts
-returns-11 c = rw (c .before .before .before .before .w5 .given .1, le-leb _ _ (c .before .if5 .left)) (c .step-counts .ensures)
+returns-11 c = rw (c .before .before .before .before .w5 .given .1, le-leb _ _ (c .before .if5 .left)) (c .body-counts .ensures)
 
 returns-12 : tie.Need-returns-12
 unfolding hasCounts
-returns-12 c = rw (c .before .before .before .w6 .given .1, ← c .before .stage-number .ensures) (c .step-counts2 .ensures)
+returns-12 c = rw (c .before .before .before .w6 .given .1, ← c .before .stage-number .ensures) (c .body-counts2 .ensures)
 
 returns-13 : tie.Need-returns-13
 unfolding hasCounts
 returns-13 c =
-    rw (c .before .before .before .enum-told2 .given .1) (given _ _ _ (sym (c .before .before .wants-samples .ensures) ∙ c .before .if6 .taken) (c .step-counts3 .ensures))
+    rw (c .before .before .before .enum-told2 .given .1) (given _ _ _ (sym (c .before .before .wants-samples .ensures) ∙ c .before .if6 .taken) (c .body-counts3 .ensures))
 
 returns-14 : tie.Need-returns-14
 unfolding hasCounts

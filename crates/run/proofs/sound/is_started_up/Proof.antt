@@ -10,11 +10,11 @@ returns c = simp (lt-leb _ _ (c .if1 .taken))
 
 returns-2 : tie.Need-returns-2
 unfolding isStartedUp
-returns-2 c = rw (le-leb _ _ (c .before .before .before .if1 .left), eq-eqb _ _ (c .before .if2 .taken))
+returns-2 c = rw (le-leb _ _ (c .before .if1 .left), eq-eqb _ _ (c .if2 .taken))
 
 returns-3 : tie.Need-returns-3
 unfolding isStartedUp
-returns-3 c = rw (le-leb _ _ (c .before .before .if1 .left), ne-eqb _ _ (c .if2 .left))
+returns-3 c = rw (le-leb _ _ (c .before .if1 .left), ne-eqb _ _ (c .if2 .left))
 
 pub is-started-up-spec : {M : Type 1} → statement M
 is-started-up-spec = tie.close (tie.spec returns returns-2 returns-3)
