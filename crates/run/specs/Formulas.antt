@@ -38,13 +38,13 @@ isAtRest tol before after = isStill tol (before .r) (after .r) && isStill tol (b
 -- ---- the newest point, k
 -- after the startup: "s and S are worked out again [..]; t = t0 + 4·h, steps = 4"; it is point 8
 unfoldable pub startTrack : Plan → Places → List Triple → Track
-startTrack p x a =
-    record { t = timeAt (p .t0) (p .h) 8; steps = 4; state = stateAt x 8; sums = lastSums (p .h) x a }
+startTrack p x window =
+    record { t = timeAt (p .t0) (p .h) 8; steps = 4; state = stateAt x 8; sums = lastSums (p .h) x window }
 
--- a step on, to y with the acceleration b: "s = s + a_new, S = S', t = t + h, one step"
+-- a step on, to y with the acceleration a: "s = s + a_new, S = S', t = t + h, one step"
 unfoldable pub trackOn : Plan → Track → State → Triple → Track
-trackOn p k y b =
-    record { t = add binary64 (k .t) (p .h); steps = k .steps + 1; state = y; sums = onSums (k .sums) b }
+trackOn p k y a =
+    record { t = add binary64 (k .t) (p .h); steps = k .steps + 1; state = y; sums = onSums (k .sums) a }
 
 -- where a step that ends at y is asked: "ask at t + h"
 unfoldable pub stepPoint : Plan → Track → State → Point

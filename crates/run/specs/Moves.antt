@@ -62,34 +62,34 @@ freshBody p r0 v0 =
 
 -- "a[4] at t0", and "Then a[i] for i = 0, 1, 2, 3, 5, 6, 7, 8"
 unfoldable pub surveyed : ℕ → Body → Triple → Body
-surveyed i b x = withA b (set (b .a) i x)
+surveyed i b a = withA b (set (b .a) i a)
 
 -- ---- an RK4 step: its first three accelerations are kept, the fourth ends it
 unfoldable pub withSlope : Stage → Slopes → Triple → Slopes
-withSlope First l x = record { l1 = x; l2 = l .l2; l3 = l .l3 }
-withSlope Second l x = record { l1 = l .l1; l2 = x; l3 = l .l3 }
-withSlope Third l x = record { l1 = l .l1; l2 = l .l2; l3 = x }
-withSlope Fourth l x = l
+withSlope First l a = record { l1 = a; l2 = l .l2; l3 = l .l3 }
+withSlope Second l a = record { l1 = l .l1; l2 = a; l3 = l .l3 }
+withSlope Third l a = record { l1 = l .l1; l2 = l .l2; l3 = a }
+withSlope Fourth l a = l
 
 unfoldable pub kept : Stage → Body → Triple → Body
-kept s b x = withSlopes b (withSlope s (b .slopes) x)
+kept s b a = withSlopes b (withSlope s (b .slopes) a)
 
 unfoldable pub endOf : Point → Float → Slopes → Triple → State
-endOf p h l x = endOfStep p h (l .l1) (l .l2) (l .l3) x
+endOf p h l a = endOfStep p h (l .l1) (l .l2) (l .l3) a
 
 -- "RK4 forward to points 5, 6, 7, 8, then backward with -h to 3, 2, 1, 0"; each step starts from point i
 unfoldable pub movedOn : ℕ → Body → Triple → Body
-movedOn i b x = withPlaces b (placed (i + 1) (endOf (gridPoint b i) (b .plan .h) (b .slopes) x) (b .places))
+movedOn i b a = withPlaces b (placed (i + 1) (endOf (gridPoint b i) (b .plan .h) (b .slopes) a) (b .places))
 
 unfoldable pub movedBack : ℕ → Body → Triple → Body
-movedBack i b x = withPlaces b (placed (i - 1) (endOf (gridPoint b i) (neg (b .plan .h)) (b .slopes) x) (b .places))
+movedBack i b a = withPlaces b (placed (i - 1) (endOf (gridPoint b i) (neg (b .plan .h)) (b .slopes) a) (b .places))
 
 -- ---- a startup pass: all points corrected from the same a, then "the eight accelerations afresh, in order"
 unfoldable pub passBegun : Body → Body
 passBegun b = withWidest (withPlaces b (passPlaces (b .plan .h) (b .places) (b .a))) (calmAt (b .a))
 
 unfoldable pub renewed : ℕ → Body → Triple → Body
-renewed i b x = withWidest (withA b (set (b .a) i x)) (widened (b .widest) (at (b .a) i) x)
+renewed i b a = withWidest (withA b (set (b .a) i a)) (widened (b .widest) (at (b .a) i) a)
 
 unfoldable pub passMade : Body → Body
 passMade b = withPasses b (b .«startup_iters» + 1)
@@ -107,8 +107,8 @@ tried b x = withTrial b (record { state = x; fixed = b .trial .fixed })
 
 -- "commit: slide, s = s + a_new, S = S', t = t + h, one step"
 unfoldable pub committed : Body → State → Triple → Body
-committed b y x = withTrack (withA b (slid (b .a) x)) (trackOn (b .plan) (b .track) y x)
+committed b y a = withTrack (withA b (slid (b .a) a)) (trackOn (b .plan) (b .track) y a)
 
 -- the end of the tail: "RK4 over rem"
 unfoldable pub endOfTail : Body → Triple → State
-endOfTail b x = endOf (tailFrom (b .track)) (leftAt (b .plan) (b .track .t)) (b .slopes) x
+endOfTail b a = endOf (tailFrom (b .track)) (leftAt (b .plan) (b .track .t)) (b .slopes) a

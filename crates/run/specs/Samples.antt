@@ -42,24 +42,24 @@ keptSample wanted n s out = cond wanted (cond (hasRoom n 1 out) (put n s out) ou
 -- ---- what is stored, and when
 -- point i of the startup
 unfoldable pub gridSample : Plan → Places → List Triple → ℕ → Sample
-gridSample p x a i = record { t = timeAt (p .t0) (p .h) i; r = at (x .r) i; v = at (x .v) i; a = at a i }
+gridSample p x window i = record { t = timeAt (p .t0) (p .h) i; r = at (x .r) i; v = at (x .v) i; a = at window i }
 
 -- after the startup: "with samples, points 4 to 8 are stored"
 unfoldable pub startSamples : Plan → Places → List Triple → List Sample
-startSamples p x a = gridSample p x a 4 ∷ gridSample p x a 5 ∷ gridSample p x a 6 ∷ gridSample p x a 7 ∷ gridSample p x a 8 ∷ []
+startSamples p x window = gridSample p x window 4 ∷ gridSample p x window 5 ∷ gridSample p x window 6 ∷ gridSample p x window 7 ∷ gridSample p x window 8 ∷ []
 
 -- after a commit: the newest point, with the newest acceleration
 unfoldable pub stepSample : Track → List Triple → Sample
-stepSample k a = record { t = k .t; r = k .state .r; v = k .state .v; a = at a 8 }
+stepSample k window = record { t = k .t; r = k .state .r; v = k .state .v; a = at window 8 }
 
 -- after the tail, at tf
 unfoldable pub lastSample : Plan → State → Triple → Sample
-lastSample p y b = record { t = p .tf; r = y .r; v = y .v; a = b }
+lastSample p y a = record { t = p .tf; r = y .r; v = y .v; a = a }
 
 -- the startup's samples one after the other, where samples are wanted
 unfoldable pub keptPoint : (wanted : Bool) → Plan → Places → List Triple → ℕ → List Float → List Float
-keptPoint wanted p x a i out = keptSample wanted (i - 4) (gridSample p x a i) out
+keptPoint wanted p x window i out = keptSample wanted (i - 4) (gridSample p x window i) out
 
 unfoldable pub keptPoints : (wanted : Bool) → Plan → Places → List Triple → List Float → List Float
-keptPoints wanted p x a out =
-    keptPoint wanted p x a 8 (keptPoint wanted p x a 7 (keptPoint wanted p x a 6 (keptPoint wanted p x a 5 (keptPoint wanted p x a 4 out))))
+keptPoints wanted p x window out =
+    keptPoint wanted p x window 8 (keptPoint wanted p x window 7 (keptPoint wanted p x window 6 (keptPoint wanted p x window 5 (keptPoint wanted p x window 4 out))))

@@ -21,13 +21,17 @@ look-on-requires : tie.Need-look-on-requires
 look-on-requires c κs = omega (arith, open-few _ _ _ _ (sym (c .before .before .before .before .before .before .is-open-step .ensures) ∙ not-false _ (c .before .before .before .before .before .if1 .left)) .steps)
 
 returns-3 : tie.Need-returns-3
-returns-3 c = is-made _ _ _ _ _ _ _ _ _ (sym (c .before .before .before .before .before .before .before .is-open-step .ensures) ∙ not-false _ (c .before .before .before .before .before .before .if1 .left)) (eq-eqb _ _ (c .before .before .before .before .if2 .left)) _ _ (c .before .before .next-count .ensures) (c .before .before .before .reach .ensures .1) (sym (c .before .before .before .reach .ensures .0) ∙ c .before .if3 .taken) (c .look-on .ensures)
+returns-3 c =
+    let past = c .before .before .before .before .before .before in
+    is-made _ _ _ _ _ _ _ _ _ (sym (past .before .is-open-step .ensures) ∙ not-false _ (c .before .before .before .before .before .before .if1 .left)) (eq-eqb _ _ (c .before .before .before .before .if2 .left)) _ _ (c .before .before .next-count .ensures) (c .before .before .before .reach .ensures .1) (sym (c .before .before .before .reach .ensures .0) ∙ c .before .if3 .taken) (c .look-on .ensures)
 
 look-again-requires : tie.Need-look-again-requires
 look-again-requires c κs = omega (arith, open-few _ _ _ _ (sym (c .before .before .before .before .before .before .is-open-step .ensures) ∙ not-false _ (c .before .before .before .before .before .if1 .left)) .passes)
 
 returns-4 : tie.Need-returns-4
-returns-4 c = not-made _ _ _ _ _ _ _ _ _ (sym (c .before .before .before .before .before .before .before .is-open-step .ensures) ∙ not-false _ (c .before .before .before .before .before .before .if1 .left)) (eq-eqb _ _ (c .before .before .before .before .if2 .left)) _ _ (c .before .before .next-count .ensures) (c .before .before .before .reach .ensures .1) (sym (c .before .before .before .reach .ensures .0) ∙ c .before .if3 .left) (c .look-again .ensures)
+returns-4 c =
+    let past = c .before .before .before .before .before .before in
+    not-made _ _ _ _ _ _ _ _ _ (sym (past .before .is-open-step .ensures) ∙ not-false _ (c .before .before .before .before .before .before .if1 .left)) (eq-eqb _ _ (c .before .before .before .before .if2 .left)) _ _ (c .before .before .next-count .ensures) (c .before .before .before .reach .ensures .1) (sym (c .before .before .before .reach .ensures .0) ∙ c .before .if3 .left) (c .look-again .ensures)
 
 pub look-at-spec : {M : Type 1} → statement M
 look-at-spec =

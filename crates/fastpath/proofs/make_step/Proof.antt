@@ -6,7 +6,9 @@ use Rattle.fastpath.proofs.make_step.Tie as tie
 
 returns : tie.Need-returns
 unfolding madeStep keptStep
-returns c = (simp (c .before .before .before .before .before .before .ask-at .ensures, c .before .before .before .before .before .before .before .before .before .fixed-of .ensures, c .before .before .before .before .before .before .before .before .before .before .predicted .ensures, c .before .before .before .before .before .before .before .before .before .before .before .slid .ensures, c .before .before .before .before .before .before .before .before .before .before .before .before .track-by .ensures), simp (c .before .before .keep-sample .ensures, c .before .before .before .before .step-sample .ensures, c .before .before .before .before .before .wants-samples .ensures, c .before .before .before .before .before .before .before .before .before .before .before .slid .ensures, c .before .before .before .before .before .before .before .before .before .before .before .before .track-by .ensures))
+returns c =
+    let past = c .before .before .before .before .before .before in
+    (simp (c .before .before .before .before .before .before .ask-at .ensures, past .before .before .before .fixed-of .ensures, past .before .before .before .before .predicted .ensures, past .before .before .before .before .before .slid .ensures, past .before .before .before .before .before .before .track-by .ensures), simp (c .before .before .keep-sample .ensures, c .before .before .before .before .step-sample .ensures, c .before .before .before .before .before .wants-samples .ensures, past .before .before .before .before .before .slid .ensures, past .before .before .before .before .before .before .track-by .ensures))
 
 pub make-step-spec : {M : Type 1} → statement M
 make-step-spec =

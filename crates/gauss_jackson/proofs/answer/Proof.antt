@@ -20,11 +20,15 @@ next-count-requires : tie.Need-next-count-requires
 next-count-requires c κs = omega (arith, evals-small _ (sym (c .before .before .before .before .before .is-sound .ensures) ∙ not-false _ (c .before .before .before .before .if1 .left)))
 
 take-requires : tie.Need-take-requires
-take-requires c κs = rw (c .before .before .before .waits-at .ensures) (ready _ (sym (c .before .before .before .before .before .before .before .before .is-sound .ensures) ∙ not-false _ (c .before .before .before .before .before .before .before .if1 .left)))
+take-requires c κs =
+    let past = c .before .before .before .before .before .before in
+    rw (c .before .before .before .waits-at .ensures) (ready _ (sym (past .before .before .is-sound .ensures) ∙ not-false _ (past .before .if1 .left)))
 
 returns-3 : tie.Need-returns-3
 unfolding answered
-returns-3 c = rw (sym (c .before .before .before .before .before .before .before .before .before .before .before .is-sound .ensures) ∙ not-false _ (c .before .before .before .before .before .before .before .before .before .before .if1 .left), eq-eqb _ _ (c .before .before .before .before .before .before .before .if2 .left), ← c .before .before .before .before .before .before .waits-at .ensures, ← c .before .before .before .before .before .next-count .ensures) (c .before .before .take .ensures)
+returns-3 c =
+    let past = c .before .before .before .before .before .before in
+    rw (sym (past .before .before .before .before .before .is-sound .ensures) ∙ not-false _ (past .before .before .before .before .if1 .left), eq-eqb _ _ (past .before .if2 .left), ← c .before .before .before .before .before .before .waits-at .ensures, ← c .before .before .before .before .before .next-count .ensures) (c .before .before .take .ensures)
 
 pub answer-spec : {M : Type 1} → statement M
 answer-spec =

@@ -6,7 +6,9 @@ use Rattle.app.proofs.lending.stepped_reply.Tie as tie
 
 returns : tie.Need-returns
 unfolding steppedReply
-returns c = (simp (c .asks-for .ensures, c .before .before .before .before .before .before .before .make-step .ensures .0), c .before .before .before .before .before .before .before .make-step .ensures .1)
+returns c =
+    let past = c .before .before .before .before .before .before in
+    (simp (c .asks-for .ensures, past .before .make-step .ensures .0), past .before .make-step .ensures .1)
 
 pub stepped-reply-spec : {M : Type 1} → statement M
 stepped-reply-spec = tie.close (tie.spec (λ c κs. search needs) (λ c κs. search needs) (λ c. search needs) returns)

@@ -20,7 +20,9 @@ returns-3 c = rw (← c .before .before .before .before .before .before .wants-s
 
 returns-4 : tie.Need-returns-4
 unfolding isFollowed
-returns-4 c = rw (← c .before .before .before .before .before .before .before .wants-samples .ensures, sym (c .before .before .before .before .before .before .has-place .ensures) ∙ not-false _ (c .before .before .before .before .before .if1 .left), sym (c .before .before .before .before .is-due .ensures) ∙ not-false _ (c .before .before .before .if2 .left), lt-ltb _ _ (c .before .if3 .left), ← c .is-tail .ensures)
+returns-4 c =
+    let past = c .before .before .before .before .before .before in
+    rw (← past .before .wants-samples .ensures, sym (c .before .before .before .before .before .before .has-place .ensures) ∙ not-false _ (c .before .before .before .before .before .if1 .left), sym (c .before .before .before .before .is-due .ensures) ∙ not-false _ (c .before .before .before .if2 .left), lt-ltb _ _ (c .before .if3 .left), ← c .is-tail .ensures)
 
 pub is-followed-spec : {M : Type 1} → statement M
 is-followed-spec =

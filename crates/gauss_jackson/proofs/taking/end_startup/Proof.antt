@@ -14,7 +14,9 @@ returns c = no-room _ _ _ _ _ 4 refl _ _ (c .before .before .before .wants-sampl
 
 returns-2 : tie.Need-returns-2
 unfolding startupEnded
-returns-2 c = rw (← c .before .launch .ensures) (stored-points _ _ _ _ _ (c .before .before .before .before .before .before .before .before .wants-samples .ensures) (c .before .before .before .before .before .before .before .has-place .ensures) _ _ (not-false _ (c .before .before .before .before .before .before .if1 .left)) (c .before .before .before .before .keep-points .ensures) (c .onward .ensures))
+returns-2 c =
+    let past = c .before .before .before .before .before .before in
+    rw (← c .before .launch .ensures) (stored-points _ _ _ _ _ (past .before .before .wants-samples .ensures) (past .before .has-place .ensures) _ _ (not-false _ (c .before .before .before .before .before .before .if1 .left)) (c .before .before .before .before .keep-points .ensures) (c .onward .ensures))
 
 pub end-startup-spec : {M : Type 1} → statement M
 end-startup-spec =

@@ -16,11 +16,15 @@ returns-2 c = rw (sym (c .before .before .before .before .before .is-due .ensure
 
 returns-3 : tie.Need-returns-3
 unfolding onward
-returns-3 c = rw (sym (c .before .before .before .before .before .before .before .is-due .ensures) ∙ not-false _ (c .before .before .before .before .before .before .if1 .left), lt-ltb _ _ (c .before .before .before .if2 .left), sym (c .before .before .is-tail .ensures) ∙ c .before .if3 .taken) (c .ask .ensures)
+returns-3 c =
+    let past = c .before .before .before .before .before .before in
+    rw (sym (past .before .is-due .ensures) ∙ not-false _ (c .before .before .before .before .before .before .if1 .left), lt-ltb _ _ (c .before .before .before .if2 .left), sym (c .before .before .is-tail .ensures) ∙ c .before .if3 .taken) (c .ask .ensures)
 
 returns-4 : tie.Need-returns-4
 unfolding onward
-returns-4 c = rw (sym (c .before .before .before .before .before .before .before .before .is-due .ensures) ∙ not-false _ (c .before .before .before .before .before .before .before .if1 .left), lt-ltb _ _ (c .before .before .before .before .if2 .left), sym (c .before .before .before .is-tail .ensures) ∙ c .before .before .if3 .left, ← c .before .predict .ensures) (c .ask2 .ensures)
+returns-4 c =
+    let past = c .before .before .before .before .before .before in
+    rw (sym (past .before .before .is-due .ensures) ∙ not-false _ (past .before .if1 .left), lt-ltb _ _ (c .before .before .before .before .if2 .left), sym (c .before .before .before .is-tail .ensures) ∙ c .before .before .if3 .left, ← c .before .predict .ensures) (c .ask2 .ensures)
 
 pub onward-spec : {M : Type 1} → statement M
 onward-spec =

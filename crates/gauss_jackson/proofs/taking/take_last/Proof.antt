@@ -13,7 +13,9 @@ returns c = no-room _ _ _ _ _ _ refl _ _ (c .before .before .before .wants-sampl
 
 returns-2 : tie.Need-returns-2
 unfolding lastTaken
-returns-2 c = rw (← c .before .before .before .before .before .before .last-sample .ensures, ← c .before .solution-of .ensures) (stored-one _ _ _ _ _ _ _ (c .before .before .before .before .before .before .before .before .before .wants-samples .ensures) (c .before .before .before .before .before .before .before .before .has-place .ensures) _ _ (not-false _ (c .before .before .before .before .before .before .before .if1 .left)) (c .before .before .before .before .keep-sample .ensures) (c .end2 .ensures))
+returns-2 c =
+    let past = c .before .before .before .before .before .before in
+    rw (← c .before .before .before .before .before .before .last-sample .ensures, ← c .before .solution-of .ensures) (stored-one _ _ _ _ _ _ _ (past .before .before .before .wants-samples .ensures) (past .before .before .has-place .ensures) _ _ (not-false _ (past .before .if1 .left)) (c .before .before .before .before .keep-sample .ensures) (c .end2 .ensures))
 
 pub take-last-spec : {M : Type 1} → statement M
 take-last-spec =

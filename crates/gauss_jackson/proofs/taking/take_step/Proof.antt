@@ -12,7 +12,9 @@ returns c = rw (le-ltb _ _ (c .before .before .before .before .before .if1 .take
 
 returns-2 : tie.Need-returns-2
 unfolding stepTaken
-returns-2 c = rw (lt-ltb _ _ (c .before .before .before .before .before .before .before .before .if1 .left), ← c .before .before .before .before .before .before .before .corrected .ensures, sym (c .before .before .before .before .before .before .is-at-rest .ensures) ∙ c .before .before .before .before .before .if2 .taken, ← c .before .before .before .before .commit2 .ensures) (c .before .before .end-step2 .ensures)
+returns-2 c =
+    let past = c .before .before .before .before .before .before in
+    rw (lt-ltb _ _ (past .before .before .if1 .left), ← past .before .corrected .ensures, sym (c .before .before .before .before .before .before .is-at-rest .ensures) ∙ c .before .before .before .before .before .if2 .taken, ← c .before .before .before .before .commit2 .ensures) (c .before .before .end-step2 .ensures)
 
 returns-3 : tie.Need-returns-3
 unfolding stepTaken

@@ -17,7 +17,9 @@ returns-2 c = rw (sym (c .before .before .before .before .before .before .is-las
 
 returns-3 : tie.Need-returns-3
 unfolding rk4Taken tailEnded
-returns-3 c = rw (sym (c .before .before .before .before .before .before .before .is-last .ensures) ∙ not-false _ (c .before .before .before .before .before .before .if1 .left), ← c .before .before .before .before .before .end-of-tail .ensures, ← c .before .solution-of .ensures) (pick-false _ _ _ _ (sym (c .before .before .before .before .wants-samples .ensures) ∙ c .before .before .before .if2 .left) (c .end .ensures))
+returns-3 c =
+    let past = c .before .before .before .before .before .before in
+    rw (sym (past .before .is-last .ensures) ∙ not-false _ (c .before .before .before .before .before .before .if1 .left), ← c .before .before .before .before .before .end-of-tail .ensures, ← c .before .solution-of .ensures) (pick-false _ _ _ _ (sym (c .before .before .before .before .wants-samples .ensures) ∙ c .before .before .before .if2 .left) (c .end .ensures))
 
 pub take-tail-spec : {M : Type 1} → statement M
 take-tail-spec =

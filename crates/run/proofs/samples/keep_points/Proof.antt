@@ -6,7 +6,10 @@ use Rattle.run.proofs.samples.keep_points.Tie as tie
 
 returns : tie.Need-returns
 unfolding keptPoints
-returns c = rw (c .before .before .keep-point5 .ensures, c .before .before .before .before .before .before .keep-point4 .ensures, c .before .before .before .before .before .before .before .before .before .before .keep-point3 .ensures, c .before .before .before .before .before .before .before .before .before .before .before .before .before .before .keep-point2 .ensures, c .before .before .before .before .before .before .before .before .before .before .before .before .before .before .before .before .before .before .keep-point .ensures)
+returns c =
+    let past = c .before .before .before .before .before .before in
+    let far = past .before .before .before .before .before .before in
+    rw (c .before .before .keep-point5 .ensures, c .before .before .before .before .before .before .keep-point4 .ensures, past .before .before .before .before .keep-point3 .ensures, far .before .before .keep-point2 .ensures, far .before .before .before .before .before .before .keep-point .ensures)
 
 pub keep-points-spec : {M : Type 1} → statement M
 keep-points-spec =

@@ -26,7 +26,9 @@ returns-4 c = rw (eq-eqb _ _ (c .before .before .before .before .before .before 
 
 returns-5 : tie.Need-returns-5
 unfolding isOpenStep
-returns-5 c = rw (eq-eqb _ _ (c .before .before .before .before .before .before .before .before .before .if1 .left), le-leb _ _ (c .before .before .before .before .before .before .before .if2 .left), sym (c .before .before .before .before .before .before .are-within-limits .ensures) ∙ not-false _ (c .before .before .before .before .before .if3 .left), eq-eqb _ _ (c .before .before .before .if4 .left), lt-leb _ _ (c .if5 .taken))
+returns-5 c =
+    let past = c .before .before .before .before .before .before in
+    rw (eq-eqb _ _ (past .before .before .before .if1 .left), le-leb _ _ (past .before .if2 .left), sym (c .before .before .before .before .before .before .are-within-limits .ensures) ∙ not-false _ (c .before .before .before .before .before .if3 .left), eq-eqb _ _ (c .before .before .before .if4 .left), lt-leb _ _ (c .if5 .taken))
 
 step-counts-requires : tie.Need-step-counts-requires
 step-counts-requires c κs =
@@ -35,7 +37,9 @@ step-counts-requires c κs =
 
 returns-6 : tie.Need-returns-6
 unfolding isOpenStep
-returns-6 c = rw (eq-eqb _ _ (c .before .before .before .before .before .before .before .before .before .before .before .if1 .left), le-leb _ _ (c .before .before .before .before .before .before .before .before .before .if2 .left), sym (c .before .before .before .before .before .before .before .before .are-within-limits .ensures) ∙ not-false _ (c .before .before .before .before .before .before .before .if3 .left), eq-eqb _ _ (c .before .before .before .before .before .if4 .left), le-leb _ _ (c .before .before .if5 .left)) (c .step-counts .ensures)
+returns-6 c =
+    let past = c .before .before .before .before .before .before in
+    rw (eq-eqb _ _ (past .before .before .before .before .before .if1 .left), le-leb _ _ (past .before .before .before .if2 .left), sym (past .before .before .are-within-limits .ensures) ∙ not-false _ (past .before .if3 .left), eq-eqb _ _ (c .before .before .before .before .before .if4 .left), le-leb _ _ (c .before .before .if5 .left)) (c .step-counts .ensures)
 
 pub is-open-step-spec : {M : Type 1} → statement M
 is-open-step-spec =

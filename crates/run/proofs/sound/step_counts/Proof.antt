@@ -37,10 +37,14 @@ unfolding stepCounts
 returns-4 c = rw (sym (c .before .before .before .before .before .is-started-up .ensures) ∙ not-false _ (c .before .before .before .before .if1 .left), le-leb _ _ (c .before .before .before .if2 .left), lt-ltb _ _ (c .before .if3 .left), lt-leb _ _ (c .if4 .taken))
 
 mul-result : tie.Need-mul-result
-mul-result c = omega (arith, few _ _ (c .before .before .if3 .left) (c .before .before .before .before .before .before .before .pre .0))
+mul-result c =
+    let past = c .before .before .before .before .before .before in
+    omega (arith, few _ _ (c .before .before .if3 .left) (past .before .pre .0))
 
 add-result-2 : tie.Need-add-result-2
-add-result-2 c = omega (arith, to-started _ _ (sym (c .before .before .before .before .before .before .is-started-up .ensures) ∙ not-false _ (c .before .before .before .before .before .if1 .left)) .most, c .before .before .before .before .before .before .before .pre .0 .startups, c .before .before .before .before .before .before .before .pre .1, few _ _ (c .before .before .if3 .left) (c .before .before .before .before .before .before .before .pre .0))
+add-result-2 c =
+    let past = c .before .before .before .before .before .before in
+    omega (arith, to-started _ _ (sym (c .before .before .before .before .before .before .is-started-up .ensures) ∙ not-false _ (c .before .before .before .before .before .if1 .left)) .most, past .before .pre .0 .startups, past .before .pre .1, few _ _ (c .before .before .if3 .left) (past .before .pre .0))
 
 returns-5 : tie.Need-returns-5
 unfolding stepCounts
