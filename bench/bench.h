@@ -4,6 +4,8 @@
 
 #include "gauss_jackson.h"
 
+#include <stdbool.h>
+
 /* A run's input. `out` is the room for samples, where settings.samples says so; it is not cleared. */
 typedef struct task {
     gj_settings settings;

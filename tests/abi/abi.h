@@ -17,7 +17,7 @@ static inline void check(int holds, const char *what) {
 
 /* 0 to 8 in steps of 1, one pass each, tolerances 0, no samples: 57 answers. */
 static inline gj_settings plain(void) {
-    gj_settings s = {1.0, 0.0, 0.0, 1, 1, 1000000, false};
+    gj_settings s = {1.0, 0.0, 0.0, 1, 1, 1000000, 0};
     return s;
 }
 
