@@ -37,7 +37,6 @@ need_library() {
         [ -f "$GJ_LIBRARY" ] || lacks "GJ_LIBRARY=\"$GJ_LIBRARY\" names no file"
         library=$GJ_LIBRARY
     else
-        command -v rt >/dev/null || lacks "the command rt is not on the path: the Rattle kit proves the library (or GJ_LIBRARY names one that stands already)"
         prove_library
     fi
     if grep -aq gj_interpolate_batch "$library"; then dense=${WITH_DENSE:-1}; else dense=${WITH_DENSE:-0}; fi

@@ -20,19 +20,19 @@ wrong() { echo "$*" >&2; exit 2; }
 
 # The kit's compilers and C library, beside the command rt; empty where there is no kit.
 find_kit() {
-    kit=
+    kit= kit_wanted="the command rt is not on the path: the Rattle kit brings it (or GJ_LIBRARY names a library that stands already)"
     rt=$(command -v rt) || return 0
     kit=${RATTLE_HOME:-$(dirname "$(dirname "$(readlink -f "$rt")")")}/on/$machine/toolchain
-    [ -x "$kit/bin/clang" ] || kit=
+    [ -x "$kit/bin/clang" ] && return
+    kit_wanted="the kit of $rt has no compiler at $kit/bin (RATTLE_HOME says where the kit is)"
+    kit=
 }
 
 find_emulator() {
     if [ "$machine" = x86_64 ]; then emulator=${EMULATOR-}; return; fi
-    brought=$kit/bin/qemu-x86_64
-    [ -x "$brought" ] || brought=$(command -v qemu-x86_64) || brought=
-    emulator=${EMULATOR-$brought}
-    command -v "${emulator:-none}" >/dev/null ||
-        lacks "no emulator runs x86-64 programs here: ${EMULATOR+EMULATOR=\"$EMULATOR\" names none}${EMULATOR-rt brings none, and no qemu-x86_64 is on the path}"
+    emulator=${EMULATOR-${kit:+$kit/bin/}qemu-x86_64}
+    command -v "${emulator:-none}" >/dev/null && return
+    lacks "nothing here runs x86-64 programs: no command '$emulator' (Debian: qemu-user; EMULATOR names another)"
 }
 
 # A compiler from outside the kit, and whether it finds the C library that it links against: Debian only recommends that.
@@ -103,10 +103,11 @@ need_rust() { find_rust || lacks "$rust_wanted"; }
 need_cargo() { command -v cargo >/dev/null || lacks "no cargo on the path, which builds the Rust of this project (Debian: cargo)"; }
 
 find_kit
+[ -n "$kit" ] || [ -n "${GJ_LIBRARY:-}" ] || lacks "$kit_wanted"
 find_emulator
 find_cross
 if [ -n "$cross" ]; then use cross
 elif [ -n "$kit" ]; then use kit
-else lacks "no C compiler for x86-64: neither the Rattle kit's (the command rt is not on the path) nor $usual with its C library"
+else lacks "no C compiler for x86-64 here: neither $usual with its C library nor the kit's, since $kit_wanted"
 fi
 . tools/library.sh

@@ -1,3 +1,4 @@
+/* SPDX-License-Identifier: MIT OR Apache-2.0 */
 /* What the parts of the test share: a check that is counted, and one that names what failed. */
 #ifndef ABI_H
 #define ABI_H
@@ -30,10 +31,13 @@ static inline gj_reply play(gj_run *run, gj_reply reply, double *out, size_t cou
     return reply;
 }
 
+static inline int refused(gj_reply reply, int refusal) { return reply.kind == GJ_REFUSED && reply.refusal == refusal; }
+
 void layout_of_settings(void);
 void layout_of_replies(void);
 void layout_of_runs(void);
 void results(void);
+void promises(void);
 int wrapper_failures(void);
 
 #endif

@@ -1,3 +1,4 @@
+/* SPDX-License-Identifier: MIT OR Apache-2.0 */
 /* Where the library itself puts and takes each field of the records that a caller fills or reads, against sizeof and offsetof.
  * Nothing of the header's layout is used to find a place: a known value goes in, and the bytes are searched for it. */
 #include "abi.h"

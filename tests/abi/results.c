@@ -1,3 +1,4 @@
+/* SPDX-License-Identifier: MIT OR Apache-2.0 */
 /* What the calls give through the header: counts and refusals that document 01 names, buffers with and without room. */
 #include "abi.h"
 
@@ -8,8 +9,6 @@ static gj_reply from_to(gj_run *run, gj_settings s, double t0, double tf) {
     gj_triple r0 = {1, 2, 3}, v0 = {0, 1, 0};
     return gj_start(run, s, t0, tf, r0, v0);
 }
-
-static int refused(gj_reply reply, int refusal) { return reply.kind == GJ_REFUSED && reply.refusal == refusal; }
 
 static void check_count(gj_settings s, double tf, unsigned evals, unsigned steps, const char *what) {
     gj_run run;

@@ -1,3 +1,4 @@
+/* SPDX-License-Identifier: MIT OR Apache-2.0 */
 /* Where the library keeps each field of a run. Whether a field means what the header says is seen by what stands there at a known
  * waiting point, and, for the sums of an open step, by what a change of it does to the next question. */
 #include "abi.h"
