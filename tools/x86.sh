@@ -37,8 +37,8 @@ find_emulator() {
 
 # A compiler from outside the kit, and whether it finds the C library that it links against: Debian only recommends that.
 find_cross() {
-    usual=x86_64-linux-gnu-gcc static=-static
-    if [ "$machine" = x86_64 ]; then usual=gcc static=; fi
+    usual=x86_64-linux-gnu-gcc static=-static c_packages='Debian: gcc-x86-64-linux-gnu with libc6-dev-amd64-cross'
+    if [ "$machine" = x86_64 ]; then usual=gcc static= c_packages='Debian: gcc and libc6-dev'; fi
     cross=${CC_X86_64:-$usual}
     command -v "$cross" >/dev/null && printf '#include <math.h>\nint main(void) { return 0; }\n' |
         "$cross" $static -x c - -o /dev/null 2>/dev/null && find_math && return
@@ -98,7 +98,8 @@ find_rust() {
     rust=
     return 1
 }
-rust_wanted="no rustc has Rust's library for x86-64 (Debian: rustc and libstd-rust-dev:amd64; rustup: rustup target add $target)"
+rust_packages="Debian: rustc, cargo and libstd-rust-dev:amd64; rustup: rustup target add $target"
+rust_wanted="no rustc here has Rust's library for x86-64 ($rust_packages)"
 need_rust() { find_rust || lacks "$rust_wanted"; }
 need_cargo() { command -v cargo >/dev/null || lacks "no cargo on the path, which builds the Rust of this project (Debian: cargo)"; }
 
@@ -108,6 +109,6 @@ find_emulator
 find_cross
 if [ -n "$cross" ]; then use cross
 elif [ -n "$kit" ]; then use kit
-else lacks "no C compiler for x86-64 here: neither $usual with its C library nor the kit's, since $kit_wanted"
+else lacks "no C compiler makes x86-64 programs here: $usual or its C library is missing ($c_packages), and so is the kit's, since $kit_wanted"
 fi
 . tools/library.sh
