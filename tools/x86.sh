@@ -66,7 +66,7 @@ where() { if [ -n "$emulator" ]; then echo "under an emulator, on $machine"; els
 
 # C with each operation rounded once: to a program, or with -c to an object.
 compile() {
-    set -- -std=c11 -O2 -Wall -Wextra -ffp-contract=off -fno-math-errno -Iinclude -DGJ_DENSE="${dense:-1}" "$@"
+    set -- -std=c11 -O2 -Wall -Wextra -ffp-contract=off -fno-math-errno -I"${include:-include}" -DGJ_DENSE="${dense:-1}" "$@"
     linked=1
     case " $* " in *' -c '*) linked= ;; esac
     if [ "$with" = cross ]; then "$cross" "$@" ${linked:+"$math"}; return; fi
