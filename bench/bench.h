@@ -1,3 +1,4 @@
+/* SPDX-License-Identifier: MIT OR Apache-2.0 */
 /* The three columns, each with the same force, a = -r, and the same ends of a run to compare. */
 #ifndef BENCH_H
 #define BENCH_H
