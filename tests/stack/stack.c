@@ -5,7 +5,7 @@
 
 #include <stdio.h>
 
-enum { DEEP = 1 << 18, NEAR = 256, PAINT = 0x5A, SAID = 16384 };
+enum { DEEP = 1 << 18, NEAR = 256, PAINT = 0x5A, SAID = 32768 };
 
 static gj_run run;
 static gj_reply reply;
