@@ -9,8 +9,8 @@
 #
 # The Rattle kit is enough for C: it brings clang, a linker, a C library and, on Arm, an emulator. More, from Debian 12 on:
 #   Arm:     dpkg --add-architecture amd64 && apt-get update
-#            apt-get install --install-recommends gcc-x86-64-linux-gnu rustc cargo libstd-rust-dev:amd64
-#   x86-64:  apt-get install gcc libc6-dev rustc cargo
+#            apt-get install --install-recommends gcc-x86-64-linux-gnu rustc cargo libstd-rust-dev:amd64 pkgconf
+#   x86-64:  apt-get install gcc libc6-dev rustc cargo pkgconf
 # By rustup, in place of Debian's rustc: rustup target add x86_64-unknown-linux-gnu
 target=x86_64-unknown-linux-gnu
 machine=$(uname -m)
