@@ -20,7 +20,7 @@ wrong() { echo "$*" >&2; exit 2; }
 
 # The kit's compilers and C library, beside the command rt; empty where there is no kit.
 find_kit() {
-    kit= kit_wanted="the command rt is not on the path: the Rattle kit brings it (or GJ_LIBRARY names a library that stands already)"
+    kit="" kit_wanted="the command rt is not on the path: the Rattle kit brings it (or GJ_LIBRARY names a library that stands already)"
     rt=$(command -v rt) || return 0
     kit=${RATTLE_HOME:-$(dirname "$(dirname "$(readlink -f "$rt")")")}/on/$machine/toolchain
     [ -x "$kit/bin/clang" ] && return
@@ -35,13 +35,18 @@ find_emulator() {
     lacks "nothing here runs x86-64 programs: no command '$emulator' (Debian: qemu-user; EMULATOR names another)"
 }
 
+makes_programs() {
+    mkdir -p target
+    printf '#include <math.h>\nint main(void) { return 0; }\n' >target/trial.c
+    "$cross" $static target/trial.c -o target/trial 2>/dev/null
+}
+
 # A compiler from outside the kit, and whether it finds the C library that it links against: Debian only recommends that.
 find_cross() {
     usual=x86_64-linux-gnu-gcc static=-static c_packages='Debian: gcc-x86-64-linux-gnu with libc6-dev-amd64-cross'
-    if [ "$machine" = x86_64 ]; then usual=gcc static= c_packages='Debian: gcc and libc6-dev'; fi
+    if [ "$machine" = x86_64 ]; then usual=gcc static="" c_packages='Debian: gcc and libc6-dev'; fi
     cross=${CC_X86_64:-$usual}
-    command -v "$cross" >/dev/null && printf '#include <math.h>\nint main(void) { return 0; }\n' |
-        "$cross" $static -x c - -o /dev/null 2>/dev/null && find_math && return
+    if command -v "$cross" >/dev/null && makes_programs; then find_math; return; fi
     [ -z "${CC_X86_64:-}" ] || lacks "CC_X86_64=\"$CC_X86_64\" names no C compiler that makes programs for x86-64"
     cross=
 }

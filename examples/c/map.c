@@ -8,6 +8,34 @@ static const double TURN = 7.2921158553e-5; /* of the Earth, in radians a second
 
 typedef char map[ROWS][WIDTH + 1];
 
+/* Land, roughly. */
+static const map LAND = {
+    "   ..    .........  ....           . ...........................   ..   ",
+    "          ...............         .. ............................  .    ",
+    "           ............ ..         ..............................       ",
+    "           ...........            ... . ..  ..................  .       ",
+    "           ..........             .. .. ...... ............. . .        ",
+    "            ........              ..... .  .................  .         ",
+    "             ....  .             ...........................            ",
+    "               ..  .             ...............  ......... .           ",
+    "               ....  .           ..............   ...  ..   .           ",
+    "                  .  .          ..............     .   ...  .           ",
+    "                   ......        .............      .       .           ",
+    "                    ......            .......          .. ..            ",
+    "                    ........          ......            . . . ..        ",
+    "                    .........         ......             ..    ...      ",
+    "                    .........          ..... .                ...       ",
+    "                      ......          ...... .              .....       ",
+    "                      ......           ....  .             .......      ",
+    "                      ....             ....                ........     ",
+    "                      ....             ...                 .. .....     ",
+    "                     ....                                       ..     .",
+    "                     ..                                          .    . ",
+    "                     ..                                                 ",
+    "                     .  .                                               ",
+    "                                                                        ",
+};
+
 /* Row 0 is 55 to 60 degrees north, column 0 begins at 180 degrees west. */
 static void mark(map letters, double longitude, double latitude, char letter) {
     int column = (int)floor((longitude + 180.0) / 5.0), row = (int)floor((60.0 - latitude) / 5.0);
@@ -34,14 +62,13 @@ static int first_step(const double *samples, int revolutions) {
 }
 
 static void print_map(map letters) {
-    printf("       180W       120W        60W          0         60E        120E        180E\n");
+    printf("     180W       120W         60W          0          60E        120E       180E\n");
     for (int row = 0; row < ROWS; row++) {
         int edge = 60 - 5 * row;
         if (edge % 15 == 0)
-            printf("  %3d%c ", edge < 0 ? -edge : edge, edge == 0 ? ' ' : edge > 0 ? 'N' : 'S');
+            printf("%3d%c |%s|\n", edge < 0 ? -edge : edge, edge == 0 ? ' ' : edge > 0 ? 'N' : 'S', letters[row]);
         else
-            printf("       ");
-        printf("|%s|\n", letters[row]);
+            printf("     |%s|\n", letters[row]);
     }
 }
 
@@ -53,15 +80,14 @@ uint32_t draw_track(const double *samples, int revolutions) {
     uint32_t refusal =
         gj_interpolate_batch(times, (size_t)count, samples, NUMBERS, places, (size_t)GJ_BETWEEN_NUMBERS * (size_t)count);
     if (refusal != 0) return refusal;
-    memset(letters, ' ', sizeof letters);
-    for (int row = 0; row < ROWS; row++) letters[row][WIDTH] = 0;
+    memcpy(letters, LAND, sizeof letters);
     for (int i = 0; i < count; i++) {
         const double *r = places + GJ_BETWEEN_NUMBERS * i;
         if (i > 0 && r[-4] < 0.0 && r[2] >= 0.0) at++;
-        mark_place(letters, times[i], r, (char)('0' + at));
+        if (at > 0) mark_place(letters, times[i], r, (char)('0' + at));
     }
     mark_place(letters, times[count - 1], places + GJ_BETWEEN_NUMBERS * (count - 1), '@');
-    printf("\nThe ground track of the last %d revolutions and what followed, up to @:\n\n", revolutions);
+    printf("\nThe ground track of the last %d revolutions and of the one begun, up to @:\n\n", revolutions);
     print_map(letters);
     return 0;
 }

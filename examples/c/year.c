@@ -76,7 +76,7 @@ static void print_month(const char *name, int days, const double *samples, int f
         if (h < lowest) lowest = h;
         if (h > highest) highest = h;
     }
-    printf("  %-10s %6d %12d %12.3f %12.3f %9.2f %14.2e\n", name, days, revolutions, lowest, highest,
+    printf("  %-10s %4d %12d %11.3f %11.3f %9.2f %13.2e\n", name, days, revolutions, lowest, highest,
            node(samples + GJ_SAMPLE_NUMBERS * to), energy_change(samples, to));
 }
 
@@ -88,8 +88,8 @@ static void print_table(const double *samples) {
                                         "July",    "August",   "September", "October", "November", "December"};
     static const int days[] = {31, 28, 31, 30, 31, 30, 31, 31, 30, 31, 30, 31};
     printf("A year from an orbit fix: %.0f km up, 51.6 degrees, %d steps of a minute.\n", HEIGHT, STEPS);
-    printf("The Earth as a point with its bulge (J2). Node and energy are those of a month's end.\n\n");
-    printf("  month        days  revolutions    lowest km   highest km  node deg  energy change\n");
+    printf("The Earth is a point with a bulge (J2). Node and energy: at the month's end.\n\n");
+    printf("  month      days  revolutions   lowest km  highest km  node deg energy change\n");
     for (int month = 0, from = 0, revolutions = 0; month < 12; month++) {
         int to = from + days[month] * STEPS_A_DAY;
         for (int n = from; n < to; n++) revolutions += goes_up(samples + GJ_SAMPLE_NUMBERS * n);
