@@ -165,8 +165,8 @@ gj_reply gj_open_question(const gj_run *run);
 
 /* Position and velocity at time t between the samples: 6 numbers to `out`. `samples` has `n` numbers, ten a sample, as gj_answer
  * wrote them; `out` has room for `m`. Gives 0, or refusal 9, 3 or 4, and then nothing is written. A NaN time gives six NaN.
- * It looks at the samples one after the other from the first, so on a long table a late time is dear: pass the part of the table around
- * the time (two samples are enough), or take the batch. */
+ * It looks at the samples one after the other from the first, at six instructions each, so on a long table a late time is dear (three
+ * million at the end of a year of minutes): pass the part of the table around the time, two samples are enough, or take the batch. */
 uint32_t gj_interpolate(double t, const double *samples, size_t n, double *out, size_t m);
 
 /* The same for `k` times, in the order in which the run went: 6 numbers a time, the first six for the first time. Nothing is written
