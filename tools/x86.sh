@@ -17,6 +17,7 @@ machine=$(uname -m)
 
 lacks() { echo "$*" >&2; exit 3; }
 wrong() { echo "$*" >&2; exit 2; }
+takes_no_words() { [ "$1" -eq 0 ] || wrong "$0 takes no words"; }
 
 # The kit's compilers and C library, beside the command rt; empty where there is no kit.
 find_kit() {
