@@ -104,7 +104,8 @@ find_rust() {
     rust=
     return 1
 }
-rust_packages="Debian: rustc, cargo and libstd-rust-dev:amd64; rustup: rustup target add $target"
+rust_packages="Debian: rustc and cargo"
+[ "$machine" = x86_64 ] || rust_packages="Debian: rustc, cargo and libstd-rust-dev:amd64; rustup: rustup target add $target"
 rust_wanted="no rustc here has Rust's library for x86-64 ($rust_packages)"
 need_rust() { find_rust || lacks "$rust_wanted"; }
 need_cargo() { command -v cargo >/dev/null || lacks "no cargo on the path, which builds the Rust of this project (Debian: cargo)"; }
