@@ -14,10 +14,10 @@ library_stamp() {
 
 # Streams a line for each crate as it is proved; the whole log is shown where something is not.
 stream_proofs() {
-    { rt staticlib app 2>&1; echo "rt ended with $?"; } | tee "$1" | while IFS= read -r line; do
+    { rt staticlib app 2>&1 && echo "all proved"; } | tee "$1" | while IFS= read -r line; do
         case $line in 'rt: '*' proved ('*) echo "    ${line#rt: }" >&2 ;; esac
     done
-    [ "$(tail -n 1 "$1")" = 'rt ended with 0' ] || { cat "$1" >&2; echo "the library is not proved: see above" >&2; exit 1; }
+    [ "$(tail -n 1 "$1")" = 'all proved' ] || { cat "$1" >&2; echo "the library is not proved: see above" >&2; exit 1; }
     echo "    app proved, and the library written" >&2
 }
 
