@@ -51,16 +51,20 @@ static void print(const char *name, long bytes) {
     failures += bytes > SAID;
 }
 
-/* A run to its end, with samples or without: the most that an answer and an open question took. */
-static void follow(long *answer, long *open) {
+static void keep(long *most, long bytes) {
+    if (bytes > *most) *most = bytes;
+}
+
+/* A run to its end, with samples or without, and one call more: the most that calls took. */
+static void follow(long *startup, long *step, long *open) {
     call_start();
     while (reply.kind == GJ_ASK) {
-        long o = taken(call_open_question), a = taken(call_answer);
-        if (o > *open) *open = o;
-        if (a > *answer) *answer = a;
+        keep(open, taken(call_open_question));
+        long *answer = run.mark.at < 6 ? startup : step;
+        keep(answer, taken(call_answer));
     }
-    long refused = taken(call_answer);
-    if (refused > *answer) *answer = refused;
+    keep(step, taken(call_answer));
+    keep(open, taken(call_open_question));
 }
 
 int main(void) {
@@ -68,9 +72,10 @@ int main(void) {
     print("gj_default_settings", taken(call_default_settings));
     settings.h = 2.0;
     print("gj_start", taken(call_start));
-    long answer = 0, open = 0;
-    for (settings.samples = 0; settings.samples <= 1; settings.samples++) follow(&answer, &open);
-    print("gj_answer", answer);
+    long startup = 0, step = 0, open = 0;
+    for (settings.samples = 0; settings.samples <= 1; settings.samples++) follow(&startup, &step, &open);
+    print("gj_answer, startup", startup);
+    print("gj_answer, later", step);
     print("gj_open_question", open);
     times[0] = 3.5, times[1] = 16.5;
     print("gj_interpolate", taken(call_interpolate));
