@@ -14,7 +14,7 @@ pub struct Settings {
     max_corrector_iters: u64,
     max_startup_iters: u64,
     max_steps: u64,
-    samples: bool,
+    samples: u8,
 }
 
 #[repr(C)]

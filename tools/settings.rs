@@ -7,6 +7,6 @@ fn settings(s: &Settings) -> GJSettings<f64> {
         max_startup_iters: s.max_startup_iters as usize,
         startup_tol: s.startup_tol,
         max_steps: s.max_steps as usize,
-        dense_output: s.samples,
+        dense_output: s.samples == 1,
     }
 }

@@ -1,8 +1,6 @@
-/* A C main for the Rust example. A program that is linked by Rust needs x86-64's shared C library, which an emulator may not find;
- * this one is linked whole. */
-#include <stdbool.h>
-#include <string.h>
+/* SPDX-License-Identifier: MIT OR Apache-2.0 */
+/* A C main for the Rust example, where an emulator runs it: what Rust does before its own main, not every emulator can. Rust finds the
+ * words of the command line by itself. */
+int orbit_main(void);
 
-int orbit_tell(bool bits);
-
-int main(int argc, char **argv) { return orbit_tell(argc == 2 && strcmp(argv[1], "--bits") == 0); }
+int main(void) { return orbit_main(); }

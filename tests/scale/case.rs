@@ -28,7 +28,7 @@ impl Case {
             max_startup_iters: n(7)?,
             startup_tol: f(8)?,
             max_steps: n(9)?,
-            samples: words[10] == "1",
+            samples: u8::from(words[10] == "1"),
         };
         Some(Case {
             t0: f(2)?,
@@ -39,6 +39,10 @@ impl Case {
             force: NAMES.iter().find(|(name, _)| *name == words[17])?.1,
             p: [f(18)?, f(19)?, f(20)?, f(21)?],
         })
+    }
+
+    pub fn wants_samples(&self) -> bool {
+        self.settings.samples == 1
     }
 
     /// The same case, ending where the clock stands after so many steps.

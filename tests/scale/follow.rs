@@ -69,7 +69,7 @@ fn room_for(case: &Case, record: &Record, rng: &mut Random) -> Room {
         Ok(s) => s.steps,
         Err(_) => case.settings.max_steps.max(4) as usize,
     };
-    let needed = if case.settings.samples { 10 * (steps + 1) } else { 0 };
+    let needed = if case.wants_samples() { 10 * (steps + 1) } else { 0 };
     let more = rng.below(26) as usize;
     Room::new(rng, needed + more)
 }
@@ -88,7 +88,7 @@ impl Line<'_> {
     fn written_by(&mut self, n: usize) -> Verdict<Due> {
         let first = self.written;
         let none = Due { first, count: 0 };
-        if !self.case.settings.samples || !self.room.is_changed(10 * first, 10 * first + 10) {
+        if !self.case.wants_samples() || !self.room.is_changed(10 * first, 10 * first + 10) {
             return Ok(none);
         }
         let count = if first == 0 { 5 } else { 1 };
@@ -151,7 +151,7 @@ impl Line<'_> {
                 self.case.settings.max_steps.max(4) as usize
             }
         };
-        holds(!self.case.settings.samples || self.written == steps + 1, "samples are missing")?;
+        holds(!self.case.wants_samples() || self.written == steps + 1, "samples are missing")?;
         self.room.whole_is_as_expected()?;
         #[cfg(feature = "dense")]
         if let Some(table) = self.record.end.as_ref().ok().and_then(|s| s.dense.as_ref()) {

@@ -46,7 +46,7 @@ fn play(case: &Case) -> Record {
 impl Record {
     pub fn of(case: &Case) -> Record {
         let mut record = play(case);
-        if record.end.is_err() && case.settings.samples {
+        if record.end.is_err() && case.wants_samples() {
             record.samples = samples_before_refusal(case, &record);
         }
         record

@@ -1,3 +1,4 @@
+// SPDX-License-Identifier: MIT OR Apache-2.0
 //! Position and velocity between samples.
 use crate::Triple;
 
@@ -12,7 +13,7 @@ pub struct State {
 #[cfg(feature = "dense")]
 mod calls {
     use super::State;
-    use crate::{raw, Refusal};
+    use crate::{abi, raw, Refusal};
 
     /// How many numbers the library writes a time.
     const NUMBERS: usize = 6;
@@ -25,18 +26,55 @@ mod calls {
     }
 
     /// At time t, from samples as a run stored them: ten numbers each, and no others in the slice.
+    ///
+    /// Room that the run did not fill is no sample: cut it off by [`numbers_for`](crate::numbers_for) the steps made. A time of NaN is not
+    /// refused and gives NaN. The search begins at the first sample, so the cost grows with the table; for many times take
+    /// [`interpolate_batch`].
+    ///
+    /// ```
+    /// // From rest at 0 to 1: two samples, a second apart.
+    /// let samples = [0.0, 0.0, 0.0, 0.0, 0.0, 0.0, 0.0, 0.0, 0.0, 0.0, 1.0, 1.0, 0.0, 0.0, 5.0, 0.0, 0.0, 20.0, 0.0, 0.0];
+    /// let state = gauss_jackson::interpolate(0.5, &samples)?;
+    /// assert_eq!((state.r.x, state.v.x), (0.03125, 0.3125));
+    /// # Ok::<(), gauss_jackson::Refusal>(())
+    /// ```
+    ///
+    /// # Errors
+    ///
+    /// In this order: [`Refusal::Shape`] for numbers not in tens, [`Refusal::NoDenseOutput`] for fewer than two samples,
+    /// [`Refusal::InterpOutOfBounds`] for a time outside them.
     pub fn interpolate(t: f64, samples: &[f64]) -> Result<State, Refusal> {
+        abi::must_be_ours();
         let mut at = State::default();
-        let out = &mut at as *mut State as *mut f64;
+        let out = std::ptr::addr_of_mut!(at).cast();
         // A State is six numbers in the order in which the library writes them.
         read(unsafe { raw::gj_interpolate(t, samples.as_ptr(), samples.len(), out, NUMBERS) })?;
         Ok(at)
     }
 
-    /// At each of the times, which go the way the run went; a time before the one before it is read off a later curve.
+    /// At each of the times, which must go the way the run went: one walk along the samples serves them all.
+    ///
+    /// **A time before the one before it is not refused: the number that it gets is meaningless,** read off the curve of a later interval.
+    /// Where the order is not certain, ask [`first_out_of_order`](crate::first_out_of_order) or take
+    /// [`interpolate_in_any_order`](crate::interpolate_in_any_order).
+    ///
+    /// At the very time of an inner sample the batch reads the curve that ends there, [`interpolate`] the one that begins there; both
+    /// meet the sample, but for rounding.
+    ///
+    /// ```
+    /// let samples = [0.0, 0.0, 0.0, 0.0, 0.0, 0.0, 0.0, 0.0, 0.0, 0.0, 1.0, 1.0, 0.0, 0.0, 5.0, 0.0, 0.0, 20.0, 0.0, 0.0];
+    /// let states = gauss_jackson::interpolate_batch(&[0.0, 0.5, 1.0], &samples)?;
+    /// assert_eq!((states[1].r.x, states[2].r.x), (0.03125, 1.0));
+    /// # Ok::<(), gauss_jackson::Refusal>(())
+    /// ```
+    ///
+    /// # Errors
+    ///
+    /// Those of [`interpolate`]; a single time outside the samples refuses the whole batch.
     pub fn interpolate_batch(times: &[f64], samples: &[f64]) -> Result<Vec<State>, Refusal> {
+        abi::must_be_ours();
         let mut all = vec![State::default(); times.len()];
-        let out = all.as_mut_ptr() as *mut f64;
+        let out = all.as_mut_ptr().cast();
         let (k, n, m) = (times.len(), samples.len(), NUMBERS * times.len());
         read(unsafe { raw::gj_interpolate_batch(times.as_ptr(), k, samples.as_ptr(), n, out, m) })?;
         Ok(all)

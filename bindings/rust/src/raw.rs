@@ -1,4 +1,5 @@
-//! What the library exports, as include/gauss_jackson.h has it.
+// SPDX-License-Identifier: MIT OR Apache-2.0
+//! What the library exports, as include/gauss_jackson.h has it. It uses nothing else of the crate: tests/scale reads it too.
 
 /// A position, a velocity or an acceleration.
 #[repr(C)]
@@ -21,29 +22,17 @@ impl From<Triple> for [f64; 3] {
     }
 }
 
-/// What the caller chooses; `Settings::default()` has the library's own values. The step's sign does not count.
+/// What the caller chooses, in plain numbers: the library takes any byte for `samples`, and refuses one above 1.
 #[repr(C)]
 #[derive(Debug, Clone, Copy, PartialEq)]
 pub struct Settings {
     pub h: f64,
-    /// Zero or less makes every pass.
     pub corrector_tol: f64,
     pub startup_tol: f64,
-    /// At most 100.
     pub max_corrector_iters: u64,
-    /// At most 100.
     pub max_startup_iters: u64,
-    /// At most 1,000,000.
     pub max_steps: u64,
-    /// Whether samples are stored in the buffer lent to each answer.
-    pub samples: bool,
-}
-
-impl Default for Settings {
-    fn default() -> Settings {
-        // Safe: it takes nothing, and gives a record whose every value is a Settings.
-        unsafe { gj_default_settings() }
-    }
+    pub samples: u8,
 }
 
 /// What a call tells, in plain numbers.

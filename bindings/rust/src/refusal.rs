@@ -1,18 +1,33 @@
+// SPDX-License-Identifier: MIT OR Apache-2.0
 //! The refusals, with a text each.
 use std::fmt;
 
-/// Why a call was refused.
+/// Why a call was refused. As text it says what was wrong and what it left:
+///
+/// ```
+/// # use gauss_jackson::Refusal;
+/// assert!(Refusal::SampleRoom.to_string().ends_with("(refusal 6)"));
+/// ```
 #[derive(Debug, Clone, Copy, PartialEq, Eq, Hash)]
 #[non_exhaustive]
 pub enum Refusal {
+    /// At a start: the step is zero, or the span is shorter than eight steps.
     StepNotFinite,
+    /// At an answer: a further step is due and `max_steps` are made. The run has ended; its samples stay.
     MaxStepsExceeded,
+    /// At an interpolation: fewer than two samples.
     NoDenseOutput,
+    /// At an interpolation: a time outside the samples.
     InterpOutOfBounds,
+    /// At a start: a setting over its limit.
     Setting,
+    /// At an answer: the samples due now do not all fit. The run has ended; this call wrote none.
     SampleRoom,
+    /// At an answer or for the open question: the run has ended.
     NoQuestion,
+    /// At an answer: the number is not the open question's. The run waits as before.
     NotThatQuestion,
+    /// At an interpolation: the numbers of the samples are not in tens.
     Shape,
     /// A number that this crate has no name for: the library is newer than the crate.
     Other(u16),
@@ -37,6 +52,12 @@ impl Refusal {
     }
 
     /// The number that the C header has for it.
+    ///
+    /// ```
+    /// # use gauss_jackson::Refusal;
+    /// assert_eq!(Refusal::SampleRoom.number(), 6);
+    /// ```
+    #[must_use]
     pub fn number(self) -> u16 {
         match self {
             Refusal::Other(number) => number,

@@ -1,21 +1,14 @@
+// SPDX-License-Identifier: MIT OR Apache-2.0
 //! A run: its questions, answers and end.
-use crate::raw;
-use crate::{Refusal, Settings, Triple};
-
-/// Numbers in a sample: t, then x, y and z of position, velocity and acceleration.
-pub const SAMPLE_NUMBERS: usize = 10;
-
-/// How many numbers the samples of a run of so many steps take: one more sample than steps.
-pub const fn numbers_for(steps: usize) -> usize {
-    SAMPLE_NUMBERS * (steps + 1)
-}
+use crate::{abi, raw, Refusal, Settings, Triple};
 
 /// What a call tells, where it is not refused.
+#[must_use = "a question waits for its answer, and the finished state is told once"]
 #[derive(Debug, Clone, Copy, PartialEq)]
 pub enum Reply {
     /// A question: what is the acceleration there? Answer under its number.
     Ask { number: u16, t: f64, r: Triple, v: Triple },
-    /// The finished state. `evals` counts the accepted answers.
+    /// The finished state. `evals` counts the accepted answers, `startup_iters` the passes of the startup.
     Done { t: f64, r: Triple, v: Triple, evals: u64, steps: u64, startup_iters: u64 },
 }
 
@@ -28,27 +21,90 @@ fn read(reply: raw::Reply) -> Result<Reply, Refusal> {
     }
 }
 
-/// An integration under way. A clone goes on by itself, from the same question.
+/// An integration under way: plain data of 1,056 bytes. A clone goes on by itself, from the same question.
+///
+/// Different runs may be answered from different threads at once.
+#[must_use = "a run goes no further until it is answered"]
 #[derive(Clone)]
 pub struct Run(raw::Run);
 
 impl Run {
-    /// A run with its first question.
+    /// A run from `t0` towards `tf`, with its first question.
+    ///
+    /// `t0`, `tf` and the step should be finite. **A NaN is not refused by this version:** the run asks its startup and then tells a
+    /// finished state after four steps, far from where it was to go. Test with [`f64::is_finite`] before; a later version refuses.
+    ///
+    /// ```
+    /// use gauss_jackson::{Reply, Run, Settings, Triple};
+    /// let (r0, v0) = (Triple::from([7000.0, 0.0, 0.0]), Triple::from([0.0, 7.5, 0.0]));
+    /// let (run, reply) = Run::start(Settings::default(), 0.0, 86_400.0, r0, v0)?;
+    /// assert_eq!(reply, Reply::Ask { number: 0, t: 0.0, r: r0, v: v0 });
+    /// # assert_eq!(run.open_question(), Ok(reply));
+    /// # Ok::<(), gauss_jackson::Refusal>(())
+    /// ```
+    ///
+    /// # Errors
+    ///
+    /// In this order: [`Refusal::Setting`] for a setting over its limit, [`Refusal::StepNotFinite`] for a step of zero or a span shorter
+    /// than eight steps.
     pub fn start(settings: Settings, t0: f64, tf: f64, r0: Triple, v0: Triple) -> Result<(Run, Reply), Refusal> {
+        abi::must_be_ours();
         let mut run = raw::Run([0; 132]);
         // The run is ours and as large as the library's; it is written whole.
-        let reply = unsafe { raw::gj_start(&mut run, settings, t0, tf, r0, v0) };
+        let reply = unsafe { raw::gj_start(&mut run, settings.into(), t0, tf, r0, v0) };
         Ok((Run(run), read(reply)?))
     }
 
-    /// The answer to question `number`: the acceleration there. Sample n goes to numbers 10n to 10n+9 of `samples`, the same slice at
-    /// every call; without samples it may be empty. After `Done` or an end by refusal, every answer is refused.
+    /// The answer to question `number`: the acceleration there.
+    ///
+    /// With samples, sample n goes to numbers 10n to 10n+9 of `samples`, the same slice at every call, and nothing else of it is written.
+    /// Samples 0 to 4 come with the startup's last answer, then one a step, so [`numbers_for`](crate::numbers_for) the steps is room
+    /// enough. Without samples the slice may be empty. [`Run::drive`] makes this loop for you:
+    ///
+    /// ```
+    /// use gauss_jackson::{numbers_for, Reply, Run, Settings, Triple};
+    /// # fn force(_: f64, r: Triple, _: Triple) -> Triple { Triple { x: -r.x, y: -r.y, z: -r.z } }
+    /// # let (r0, v0) = (Triple::from([1.0, 0.0, 0.0]), Triple::from([0.0, 1.0, 0.0]));
+    /// let settings = Settings { h: 0.25, samples: true, ..Settings::default() };
+    /// let mut samples = vec![0.0; numbers_for(40)];
+    /// let (mut run, mut reply) = Run::start(settings, 0.0, 10.0, r0, v0)?;
+    /// let (r, v) = loop {
+    ///     match reply {
+    ///         Reply::Ask { number, t, r, v } => reply = run.answer(number, force(t, r, v), &mut samples)?,
+    ///         Reply::Done { r, v, .. } => break (r, v),
+    ///     }
+    /// };
+    /// # assert!((r.x - 10f64.cos()).abs() < 1e-6 && (v.x + 10f64.sin()).abs() < 1e-6, "{r:?} {v:?}");
+    /// # Ok::<(), gauss_jackson::Refusal>(())
+    /// ```
+    ///
+    /// # Errors
+    ///
+    /// In this order: [`Refusal::NoQuestion`] after the run's end and [`Refusal::NotThatQuestion`] for another number leave everything as
+    /// it was. [`Refusal::SampleRoom`] ends the run and writes none of this call's samples; those of earlier calls stay.
+    /// [`Refusal::MaxStepsExceeded`] ends the run too, and all its samples stay: `max_steps` + 1, or the startup's five where `max_steps`
+    /// is below four.
+    ///
+    /// A number is used again after 65,536 questions: an answer exactly so many questions late is not noticed.
     pub fn answer(&mut self, number: u16, a: Triple, samples: &mut [f64]) -> Result<Reply, Refusal> {
         // The slice gives pointer and true count; run and slice cannot overlap.
         read(unsafe { raw::gj_answer(&mut self.0, number, a, samples.as_mut_ptr(), samples.len()) })
     }
 
     /// The open question, once more.
+    ///
+    /// ```
+    /// # use gauss_jackson::{Run, Settings, Triple};
+    /// # let (r0, v0) = (Triple::from([7000.0, 0.0, 0.0]), Triple::from([0.0, 7.5, 0.0]));
+    /// let (mut run, _) = Run::start(Settings::default(), 0.0, 86_400.0, r0, v0)?;
+    /// let reply = run.answer(0, Triple::default(), &mut [])?;
+    /// assert_eq!(run.open_question(), Ok(reply));
+    /// # Ok::<(), gauss_jackson::Refusal>(())
+    /// ```
+    ///
+    /// # Errors
+    ///
+    /// [`Refusal::NoQuestion`] where the run has ended.
     pub fn open_question(&self) -> Result<Reply, Refusal> {
         read(unsafe { raw::gj_open_question(&self.0) })
     }
@@ -75,10 +131,5 @@ mod tests {
         assert_eq!(read(told(0)), Ok(Reply::Ask { number: 11, t: 7.0, r, v }));
         assert_eq!(read(told(1)), Ok(Reply::Done { t: 7.0, r, v, evals: 8, steps: 9, startup_iters: 10 }));
         assert_eq!(read(told(2)), Err(Refusal::SampleRoom));
-    }
-
-    #[test]
-    fn a_day_of_minutes_takes_1441_samples() {
-        assert_eq!(numbers_for(1440), 14410);
     }
 }

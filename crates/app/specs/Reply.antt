@@ -1,4 +1,6 @@
 -- The outcome in plain numbers, for C: 01's number and values of each case. What a case has no use for is zero.
+use Prim.Native.Nat.{ℕ}
+use mathlib.Core.List.{List}
 use Rattle.triple.specs.Arithmetic.{nought, zeros}
 use Rattle.refusals.specs.declared.Refusal.{Refusal}
 use Rattle.refusals.specs.Numbers.{numberOf}
@@ -7,8 +9,21 @@ use Rattle.gauss_jackson.specs.declared.Solution.{Solution}
 use Rattle.gauss_jackson.specs.declared.Answered.{Answered}
 use Rattle.gauss_jackson.specs.declared.Outcome.{Outcome}
 use Rattle.gauss_jackson.specs.declared.Outcome.the-variants.{Ask, Done, Refused}
+use Rattle.triple.specs.declared.Triple.{Triple}
+use Rattle.run.specs.declared.Plan.{Plan}
+use Rattle.run.specs.declared.Track.{Track}
+use Rattle.run.specs.declared.Trial.{Trial}
+use Rattle.run.specs.declared.Run.{Run}
+use Rattle.fastpath.specs.declared.Look.{Look}
+use Rattle.fastpath.specs.Moving.{askedAgain, madeStep, withTrial, withStep}
 use Rattle.app.specs.declared.Reply.{Reply}
+use Rattle.app.specs.declared.TriedReply.{TriedReply}
+use Rattle.app.specs.declared.SteppedReply.{SteppedReply}
 use Rattle.app.specs.declared.Replied.{Replied}
+
+-- the number of the interface
+abbrev pub abiNumber : ℕ
+abiNumber = 1
 
 -- kind 0: the next question
 unfoldable pub asksFor : Question → Reply
@@ -30,3 +45,19 @@ replyOf (Refused e) = refusedBy e
 
 abbrev pub repliedOf : Answered → Replied
 repliedOf d = record { run = d .run; reply = replyOf (d .outcome) }
+
+-- ---- by parts, where an answer goes the fast path
+unfoldable pub triedReply : Look → Plan → Track → Trial → TriedReply
+triedReply l p k t = let d = askedAgain l p k t in record { mark = d .mark; trial = d .trial; reply = asksFor (d .question) }
+
+unfoldable pub steppedReply : Look → Plan → Track → (old : List Triple) → Triple → SteppedReply
+steppedReply l p k old a =
+    let d = madeStep l p k old a in
+    record { mark = d .mark; a = d .a; track = d .track; trial = d .trial; reply = asksFor (d .question) }
+
+-- the run with what changed
+abbrev pub triedRun : Run → TriedReply → Run
+triedRun run d = withTrial run (d .mark) (d .trial)
+
+abbrev pub steppedRun : Run → SteppedReply → Run
+steppedRun run d = withStep run (d .mark) (d .a) (d .track) (d .trial)

@@ -1,18 +1,20 @@
 // What an app links: the whole run and the samples between, for C and for Rust. Thin over the proved functions, and proved themselves.
 // No function here depends on its caller's care beyond what a pointer needs; include/gauss_jackson.h says that, and the layouts.
-use gauss_jackson::Outcome;
-use gauss_jackson::Question;
-use gauss_jackson::Solution;
-use refusals::Refusal;
+use run::Mark;
 use run::Run;
 use run::Settings;
+use run::Track;
+use run::Trial;
 use triple::Triple;
 ghost use mathlib.Core.Path.{_≡_};
-ghost use Rattle.gauss_jackson.specs.Answers.{started, answered, openQuestion};
-ghost use Rattle.run.specs.Plan.{defaultSettings};
 ghost use mathlib.Core.List.{[], _∷_};
+ghost use Rattle.run.specs.Plan.{defaultSettings};
+ghost use Rattle.gauss_jackson.specs.Answers.{started, answered, openQuestion};
 ghost use Rattle.dense.specs.Interpolation.{judged, numberTold, interpolated, batched};
-ghost use Rattle.app.specs.Reply.{replyOf, asksFor, finishedAt, refusedBy, repliedOf};
+ghost use Rattle.app.specs.Reply.{abiNumber, replyOf};
+
+mod lending;
+mod replies;
 
 // An outcome in plain numbers. `kind` is 0 for a question, 1 for the finished state, 2 for a refusal; what a kind has no use for is zero.
 #[repr(C)]
@@ -35,94 +37,31 @@ pub struct Replied {
     pub reply: Reply,
 }
 
-fn asks_for(question: Question) -> Reply
-    ensures { λ x. ⌜ x ≡ asksFor question ⌝ }
-{
-    let r = question.r;
-    let v = question.v;
-    Reply {
-        t: question.t,
-        r,
-        v,
-        evals: 0,
-        steps: 0,
-        startup_iters: 0,
-        kind: 0,
-        refusal: 0,
-        number: question.number,
-    }
+// What changes where the open step is tried once more, and the reply.
+struct TriedReply {
+    mark: Mark,
+    trial: Trial,
+    reply: Reply,
 }
 
-fn finished_at(solution: Solution) -> Reply
-    ensures { λ x. ⌜ x ≡ finishedAt solution ⌝ }
-{
-    let r = solution.r;
-    let v = solution.v;
-    Reply {
-        t: solution.t,
-        r,
-        v,
-        evals: solution.evals,
-        steps: solution.steps,
-        startup_iters: solution.startup_iters,
-        kind: 1,
-        refusal: 0,
-        number: 0,
-    }
+// What changes where a step is made and the next one is open, and the reply.
+struct SteppedReply {
+    mark: Mark,
+    a: [Triple; 9],
+    track: Track,
+    trial: Trial,
+    reply: Reply,
 }
 
-fn refused_by(refusal: Refusal) -> Reply
-    ensures { λ x. ⌜ x ≡ refusedBy refusal ⌝ }
-{
-    let number = refusals::number_of(refusal);
-    let nothing = Triple::zero();
-    Reply {
-        t: 0.0,
-        r: nothing,
-        v: nothing,
-        evals: 0,
-        steps: 0,
-        startup_iters: 0,
-        kind: 2,
-        refusal: number as u16,
-        number: 0,
-    }
-}
+const ABI_NUMBER: u32 = 1;
 
-fn reply_of(outcome: Outcome) -> Reply
-    ensures { λ x. ⌜ x ≡ replyOf outcome ⌝ }
+// The number of this interface, which its name has too: it goes up when the run's size or a call's shape changes, so that a program that
+// was built against another one does not link.
+#[no_mangle]
+pub extern "C" fn gj_abi_1() -> u32
+    ensures { λ n. ⌜ n ≡ abiNumber ⌝ }
 {
-    match outcome {
-        Outcome::Ask(question) => asks_for(question),
-        Outcome::Done(solution) => finished_at(solution),
-        Outcome::Refused(refusal) => refused_by(refusal),
-    }
-}
-
-fn started_by(settings: Settings, t0: f64, tf: f64, r0: Triple, v0: Triple) -> Replied
-    ensures { λ x. ⌜ x ≡ repliedOf (started settings t0 tf r0 v0) ⌝ }
-{
-    let done = gauss_jackson::start(settings, t0, tf, r0, v0);
-    let run = done.run;
-    let outcome = done.outcome;
-    let reply = reply_of(outcome);
-    Replied { run, reply }
-}
-
-fn answered_by(run: Run, number: u16, a: Triple, out: &mut [f64]) -> Replied
-    ensures { λ x. ⌜ (x ≡ repliedOf (answered run number a (now (out .entry)) .got)) × (now (out .exit) ≡ answered run number a (now (out .entry)) .out) ⌝ }
-{
-    let done = gauss_jackson::answer(run, number, a, out);
-    let outcome = done.outcome;
-    let reply = reply_of(outcome);
-    let next = done.run;
-    Replied { run: next, reply }
-}
-
-fn open_in(run: Run) -> Reply
-    ensures { λ x. ⌜ x ≡ replyOf (openQuestion run) ⌝ }
-{
-    reply_of(gauss_jackson::open_question(run))
+    ABI_NUMBER
 }
 
 #[no_mangle]
@@ -144,7 +83,7 @@ pub extern "C" fn gj_start(
 ) -> Reply
     ensures { λ x. ⌜ (x ≡ replyOf (started settings t0 tf r0 v0 .outcome)) × (now (run .exit) ≡ started settings t0 tf r0 v0 .run) ⌝ }
 {
-    let done = started_by(settings, t0, tf, r0, v0);
+    let done = replies::started_by(settings, t0, tf, r0, v0);
     *run = done.run;
     done.reply
 }
@@ -156,9 +95,23 @@ pub extern "C" fn gj_answer(run: &mut Run, number: u16, a: Triple, out: &mut [f6
         × (now (run .exit) ≡ answered (now (run .entry)) number a (now (out .entry)) .got .run)
         × (now (out .exit) ≡ answered (now (run .entry)) number a (now (out .entry)) .out) ⌝ }
 {
-    let done = answered_by(*run, number, a, out);
-    *run = done.run;
-    done.reply
+    let look = fastpath::look_at(
+        run.mark,
+        run.body.plan,
+        run.body.track,
+        run.body.trial,
+        run.body.startup_iters,
+        number,
+        a,
+        out.len(),
+    );
+    if look.again {
+        return lending::try_again(run, look, out);
+    }
+    if look.on {
+        return lending::step_on(run, look, a, out);
+    }
+    lending::answer_plainly(run, number, a, out)
 }
 
 // The question that the run waits for, once more; refusal 7 where there is none.
@@ -166,7 +119,7 @@ pub extern "C" fn gj_answer(run: &mut Run, number: u16, a: Triple, out: &mut [f6
 pub extern "C" fn gj_open_question(run: &Run) -> Reply
     ensures { λ x. ⌜ x ≡ replyOf (openQuestion (now (run .entry))) ⌝ }
 {
-    open_in(*run)
+    replies::open_in(*run)
 }
 
 // Position and velocity at t, six numbers of `out`: 0, or the number of the refusal (9, 3, 4).

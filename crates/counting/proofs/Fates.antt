@@ -9,7 +9,7 @@ use lib.Dec.{T, ltb, ltb→lt, nltb→le}
 use lib.Ieee.{Float, binary64, add}
 use borrow.Author.Tests.{le-ltb}
 use Rattle.run.specs.declared.Plan.{Plan}
-use Rattle.run.specs.Formulas.{isShort}
+use Rattle.run.specs.Formulas.{isTail}
 use Rattle.whole.proofs.Along.{Along, move-along}
 use Rattle.counting.specs.Clockwork.{Fate, arrives, tails, runs-out, fateFrom, fateOf}
 use Rattle.counting.specs.Counting.{stepsFor, Least}
@@ -85,7 +85,7 @@ module _ {d : Bool} {p : Plan} {P Q S H : ℕ} (s : Span d p P Q S H) (K : ℕ) 
       let b : K * H ≤ (n + 0) * H = mul-le-mul-right H k in
       subst (λ (c : Bool). Arrival (cond c (runs-out n) (arrives t n))) (sym (goes-on s (n * H) l X ∙ le-ltb (n * H) S (omega arith))) (arrival n t X l (omega arith))
   fate-on (suc left) n t X l k =
-      subst (λ (c : Bool). Arrival (cond c (cond (isShort p t) (tails n) (fateFrom left p (add binary64 t (p .h)) (n + 1))) (arrives t n))) (sym (goes-on s (n * H) l X))
+      subst (λ (c : Bool). Arrival (cond c (cond (isTail p t) (tails n) (fateFrom left p (add binary64 t (p .h)) (n + 1))) (arrives t n))) (sym (goes-on s (n * H) l X))
       (subst (λ (b : Bool). Arrival (cond (ltb (n * H) S) (cond b (tails n) (fateFrom left p (add binary64 t (p .h)) (n + 1))) (arrives t n))) (sym (is-short s (n * H) l X))
       (go (ltb (n * H) S) (ltb (S - n * H) H) (ltb→lt (n * H) S) (nltb→le (n * H) S) (ltb→lt (S - n * H) H) (nltb→le (S - n * H) H)
       (λ (h : n * H + H ≤ S). fate-on left (n + 1) (add binary64 t (p .h)) (move-along (P + (n + 1) * H) Q (step-on s (n * H) h X) (omega arith)) (omega arith) (omega arith))))

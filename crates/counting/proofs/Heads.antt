@@ -9,7 +9,8 @@ use borrow.Author.Tests.{le-ltb, ne-eqb}
 use Rattle.triple.specs.declared.Sample.{Sample}
 use Rattle.startup.specs.Points.{timeAt}
 use Rattle.run.specs.declared.Plan.{Plan}
-use Rattle.run.specs.Formulas.{goesOn, isShort}
+use Rattle.run.specs.Limits.{wantsSamples}
+use Rattle.run.specs.Formulas.{isDue, isTail}
 use Rattle.rules.specs.Rules.{Course, stores}
 use Rattle.rules.specs.Asked.{clock}
 use Rattle.counting.specs.Paths.{Claims, Each, Always}
@@ -25,13 +26,13 @@ pub record Running (p : Plan) (e j startups : ℕ) : Type 0 where
 
 -- so many samples are stored, if they are wanted
 unfoldable pub kept : Plan → ℕ → ℕ
-kept p n = cond (p .settings .samples) n 0
+kept p n = cond (wantsSamples (p .settings)) n 0
 
-pub kept-all : (p : Plan) (n : ℕ) → p .settings .samples ≡ true → kept p n ≡ n
+pub kept-all : (p : Plan) (n : ℕ) → wantsSamples (p .settings) ≡ true → kept p n ≡ n
 unfolding kept
 kept-all p n h = ap (λ (b : Bool). cond b n 0) h
 
-pub kept-none : (p : Plan) (n : ℕ) → p .settings .samples ≡ false → kept p n ≡ 0
+pub kept-none : (p : Plan) (n : ℕ) → wantsSamples (p .settings) ≡ false → kept p n ≡ 0
 unfolding kept
 kept-none p n h = ap (λ (b : Bool). cond b n 0) h
 
@@ -52,12 +53,12 @@ nearer i n (runs-out m) l h = omega arith
 
 pub ahead : (left : ℕ) (p : Plan) (t : Float) (n : ℕ) → Ahead n (fateFrom left p t n)
 unfolding fateFrom
-ahead zero p t n = go (goesOn p t)
+ahead zero p t n = go (isDue p t)
   where
     go : (b : Bool) → Ahead n (cond b (runs-out n) (arrives t n))
     go true = omega arith
     go false = omega arith
-ahead (suc left) p t n = go (goesOn p t) (isShort p t) (nearer n (n + 1) (fateFrom left p (add binary64 t (p .h)) (n + 1)) (omega arith) (ahead left p (add binary64 t (p .h)) (n + 1)))
+ahead (suc left) p t n = go (isDue p t) (isTail p t) (nearer n (n + 1) (fateFrom left p (add binary64 t (p .h)) (n + 1)) (omega arith) (ahead left p (add binary64 t (p .h)) (n + 1)))
   where
     go : (b s : Bool) → Ahead n (fateFrom left p (add binary64 t (p .h)) (n + 1))
         → Ahead n (cond b (cond s (tails n) (fateFrom left p (add binary64 t (p .h)) (n + 1))) (arrives t n))

@@ -13,3 +13,4 @@ pub mod Starts
 pub mod Runs
 pub mod Starred
 pub mod Standstill
+pub mod Year

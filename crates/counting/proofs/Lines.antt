@@ -1,24 +1,27 @@
 -- A line of calls along a tree on which the claims hold: it never meets 6 or 2, and it finishes as claimed.
 use mathlib.Core.Path.{_≡_, refl, sym, ap, _∙_, subst}
-use mathlib.Core.Logic.{_⊎_, inl, inr}
-use Prim.Native.Nat.{ℕ, _+_, _*_, _%_, _≤_}
+use mathlib.Core.Logic.{_⊎_, inl, inr, _≢_}
+use Prim.Native.Nat.{ℕ, _+_, _*_, _%_, _≤_, _<_}
 use native.Mathlib.Omega.{arith}
-use mathlib.Core.Bool.{Bool, true, false, cond}
+use mathlib.Core.Bool.{Bool, true, false, not, cond}
 use mathlib.Core.List.{List, [], _∷_, _++_}
-use lib.Dec.{eqb}
-use lib.ListN.{length, length-set, length-append}
+use lib.Dec.{T, eqb, eqb→eq}
+use lib.Ieee.Fits.{eq→eqb}
+use lib.ListN.{length, length-append}
 use lib.Ieee.{Float}
-use borrow.Author.Tests.{le-leb}
+use borrow.Author.Tests.{le-leb, eq-eqb, ne-eqb}
 use Rattle.triple.specs.declared.Triple.{Triple}
 use Rattle.triple.specs.declared.State.{State}
 use Rattle.triple.specs.declared.Point.{Point}
 use Rattle.triple.specs.declared.Sample.{Sample}
 use Rattle.triple.specs.Arithmetic.{zeros}
-use Rattle.run.specs.Samples.{fits, put, putAll}
+use Rattle.run.specs.Limits.{numbering}
+use Rattle.run.specs.Samples.{hasRoom, put, putAll}
+use Rattle.run.proofs.Placing.{length-put-all}
 use Rattle.rules.specs.Rules.{Course, asks, stores, ends, exceeds}
-use Rattle.rules.specs.Walk.{question, finished, refused, Call, open-at, over, Stop, settle, turn, walk}
+use Rattle.rules.specs.Walk.{Said, question, finished, refused, Call, Result, open-at, over, Stop, settle, called, walk}
 use Rattle.counting.specs.Paths.{Claims, Each, Always}
-use Rattle.counting.specs.Runs.{Adds, Over, Tells, Going, Roomy}
+use Rattle.counting.specs.Runs.{Adds, Over, Tells, Going, openAfter, answersIn, IsFinished, Finishes, Roomy}
 
 -- ---- what no end exceeds is exceeded nowhere on the way
 pub record Limits (c : Claims) (E N : ℕ) : Type 0 where
@@ -35,15 +38,6 @@ module _ (c : Claims) (E N : ℕ) (l : Limits c E N) where
   under e n exceeds h = absurd (l .never e n h)
 
 -- ---- rows of samples, one after the other
-length-put : (n : ℕ) (s : Sample) (out : List Float) → length (put n s out) ≡ length out
-unfolding put
-length-put n s out = simp length-set
-
-length-put-all : (n : ℕ) (ss : List Sample) (out : List Float) → length (putAll n ss out) ≡ length out
-unfolding putAll
-length-put-all n [] out = refl
-length-put-all n (s ∷ ss) out = length-put-all (n + 1) ss (put n s out) ∙ length-put n s out
-
 put-more : (n m : ℕ) (ss rs : List Sample) (out : List Float) → n + length ss ≡ m → putAll m rs (putAll n ss out) ≡ putAll n (ss ++ rs) out
 unfolding putAll
 put-more n m [] rs out e = let f : m ≡ n = omega arith in ap (λ (i : ℕ). putAll i rs out) f
@@ -54,8 +48,8 @@ unfolding Each
 each-more P n m [] rs e h k = let f : m ≡ n = omega arith in subst (λ (i : ℕ). Each P i rs) f k
 each-more P n m (s ∷ ss) rs e h k = (h .0, each-more P (n + 1) m ss rs (omega arith) (h .1) k)
 
-fitting : (j m : ℕ) (out : List Float) → 10 * (j + m) ≤ length out → fits j m out ≡ true
-unfolding fits
+fitting : (j m : ℕ) (out : List Float) → 10 * (j + m) ≤ length out → hasRoom j m out ≡ true
+unfolding hasRoom
 fitting j m out h = le-leb (10 * (j + m)) (length out) h
 
 -- nothing, and one row after another
@@ -111,35 +105,59 @@ module _ (c : Claims) (E N : ℕ) (l : Limits c E N) where
 
   -- ---- a call, and then the calls that follow
   over-is : (cs : List Call) → Over cs (walk over cs)
-  unfolding Over walk turn
+  unfolding Over walk called
   over-is [] = tt
   over-is (k ∷ cs) = (refl, refl, over-is cs)
 
   -- the calls that follow go on from any open question
   abbrev Onward : List Call → Type 0
-  Onward cs = (i e n : ℕ) (q : Point) (k : Triple → Course) → ((a : Triple) → Always c (e + 1) n (k a)) → Going c E e n cs (walk (open-at i e q k) cs)
+  Onward cs = (i e n : ℕ) (q : Point) (k : Triple → Course) → ((a : Triple) → Always c (e + 1) n (k a)) → Going c E i e n cs (walk (open-at i e q k) cs)
 
-  -- what is to be shown of a call's stop
-  abbrev Goes : (e n : ℕ) → List Float → List Call → Stop → Type 0
-  Goes e n out cs s =
+  -- what is to be shown of a call's stop, where question i was open
+  abbrev Goes : (i number e n : ℕ) → List Float → List Call → Stop → Type 0
+  Goes i number e n out cs s =
       (m : ℕ) × Adds (c .sample) n m out (s .out)
-      × Tells c E e n m (s .said) (Going c E (e + 1) m cs (walk (s .line) cs)) (Going c E e n cs (walk (s .line) cs)) (Over cs (walk (s .line) cs))
+      × Tells c E i number e n m (s .said) (λ (j : ℕ). Going c E j (e + 1) m cs (walk (s .line) cs)) (Going c E i e n cs (walk (s .line) cs)) (Over cs (walk (s .line) cs))
 
-  accepted : (i e n : ℕ) (out : List Float) (cs : List Call) (s : Stop) → Onward cs → Settled i (e + 1) n out s → Goes e n out cs s
+  accepted : (i number j e n : ℕ) (out : List Float) (cs : List Call) (s : Stop) → number ≡ i → Onward cs → Settled j (e + 1) n out s → Goes i number e n out cs s
   unfolding Tells
-  accepted i e n out cs s f x = go (x .how)
+  accepted i number j e n out cs s same f x = go (x .how)
     where
-      go : Asked i (e + 1) (x .after) s ⊎ Done (e + 1) (x .after) s → Goes e n out cs s
+      go : Asked j (e + 1) (x .after) s ⊎ Done (e + 1) (x .after) s → Goes i number e n out cs s
       go (inl a) =
           let u : e + 1 + 1 ≤ E = under c E N l (e + 1 + 1) (x .after) (a .1 zeros) (a .3 zeros) .0 in
-          subst (Goes e n out cs) (sym (a .2)) (x .after, x .adds, (omega arith, f i (e + 1) (x .after) (a .0) (a .1) (a .3)))
-      go (inr a) = subst (Goes e n out cs) (sym (a .4)) (x .after, x .adds, (refl, a .5, over-is cs))
+          subst (Goes i number e n out cs) (sym (a .2)) (x .after, x .adds, (same, omega arith, f j (e + 1) (x .after) (a .0) (a .1) (a .3)))
+      go (inr a) = subst (Goes i number e n out cs) (sym (a .4)) (x .after, x .adds, (same, refl, a .5, over-is cs))
 
-  pub going : (i e n : ℕ) (q : Point) (k : Triple → Course) (cs : List Call) → ((a : Triple) → Always c (e + 1) n (k a)) → Roomy N cs → Going c E e n cs (walk (open-at i e q k) cs)
-  unfolding Going walk turn Roomy Tells
+  pub going : (i e n : ℕ) (q : Point) (k : Triple → Course) (cs : List Call) → ((a : Triple) → Always c (e + 1) n (k a)) → Roomy N cs → Going c E i e n cs (walk (open-at i e q k) cs)
+  unfolding Going walk called Roomy Tells
   going i e n q k [] h r = tt
-  going i e n q k (x ∷ cs) h r = go (eqb i (x .number)) (λ (i e n : ℕ) (q : Point) (k : Triple → Course) (h : (a : Triple) → Always c (e + 1) n (k a)). going i e n q k cs h (r .1))
+  going i e n q k (x ∷ cs) h r =
+      go (eqb i (x .number)) (eqb→eq i (x .number)) (λ (f : x .number ≡ i). eq→eqb (sym f))
+      (λ (i e n : ℕ) (q : Point) (k : Triple → Course) (h : (a : Triple) → Always c (e + 1) n (k a)). going i e n q k cs h (r .1))
     where
-      go : (b : Bool) → Onward cs → Goes e n (x .out) cs (cond b (settle (k (x .a)) ((i + 1) % 65536) (e + 1) (x .out)) (record { said = refused 8; out = x .out; line = open-at i e q k }))
-      go true f = accepted ((i + 1) % 65536) e n (x .out) cs (settle (k (x .a)) ((i + 1) % 65536) (e + 1) (x .out)) f (settled ((i + 1) % 65536) (e + 1) n (k (x .a)) (x .out) (h (x .a)) (r .0))
-      go false f = (n, adds-none (c .sample) n (x .out), (refl, refl, f i e n q k h))
+      go : (b : Bool) → (T b → i ≡ x .number) → (x .number ≡ i → T b) → Onward cs
+          → Goes i (x .number) e n (x .out) cs (cond b (settle (k (x .a)) ((i + 1) % numbering) (e + 1) (x .out)) (record { said = refused 8; out = x .out; line = open-at i e q k }))
+      go true y z f =
+          accepted i (x .number) ((i + 1) % numbering) e n (x .out) cs (settle (k (x .a)) ((i + 1) % numbering) (e + 1) (x .out)) (sym (y tt)) f
+          (settled ((i + 1) % numbering) (e + 1) n (k (x .a)) (x .out) (h (x .a)) (r .0))
+      go false y z f = (n, adds-none (c .sample) n (x .out), (refl, z, refl, f i e n q k h))
+
+  -- ---- whoever answers every question comes to the end
+  pub ending : (i e n : ℕ) (cs : List Call) (rs : List Result) → Going c E i e n cs rs → e < E → E ≤ e + answersIn i cs rs → Finishes rs
+  unfolding Going Tells answersIn Finishes
+  ending i e n [] [] g l u = absurd (omega arith)
+  ending i e n [] (r ∷ rs) g l u = absurd g
+  ending i e n (k ∷ ks) [] g l u = absurd g
+  ending i e n (k ∷ ks) (r ∷ rs) g l u =
+      go (r .said) (g .2) u
+      (λ (j : ℕ) (h : Going c E j (e + 1) (g .0) ks rs) (m : e + 1 < E) (o : E ≤ e + 1 + answersIn j ks rs). ending j (e + 1) (g .0) ks rs h m o)
+      (λ (h : Going c E i e n ks rs) (o : E ≤ e + answersIn i ks rs). ending i e n ks rs h l o)
+    where
+      go : (s : Said) → Tells c E i (k .number) e n (g .0) s (λ (j : ℕ). Going c E j (e + 1) (g .0) ks rs) (Going c E i e n ks rs) (Over ks rs)
+          → E ≤ e + (cond (eqb i (k .number)) 1 0 + answersIn (openAfter i s) ks rs)
+          → ((j : ℕ) → Going c E j (e + 1) (g .0) ks rs → e + 1 < E → E ≤ e + 1 + answersIn j ks rs → Finishes rs)
+          → (Going c E i e n ks rs → E ≤ e + answersIn i ks rs → Finishes rs) → IsFinished s ⊎ Finishes rs
+      go (question j p) t o f h = let a : _≡_ {A = ℕ} (cond (eqb i (k .number)) 1 0) 1 = ap (λ (b : Bool). cond {A = ℕ} b 1 0) (eq-eqb i (k .number) (sym (t .0))) in inr (f j (t .2) (t .1) (omega arith))
+      go (finished t y evals steps startups) t' o f h = inl tt
+      go (refused x) t o f h = let a : _≡_ {A = ℕ} (cond (eqb i (k .number)) 1 0) 0 = ap (λ (b : Bool). cond {A = ℕ} b 1 0) (ne-eqb i (k .number) (λ (e : i ≡ k .number). t .1 (sym e))) in inr (h (t .3) (omega arith))

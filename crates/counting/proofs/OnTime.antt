@@ -13,6 +13,7 @@ use borrow.Author.Tests.{eq-eqb, ne-eqb}
 use Rattle.triple.specs.declared.Triple.{Triple}
 use Rattle.run.specs.declared.Settings.{Settings}
 use Rattle.run.specs.declared.Plan.{Plan}
+use Rattle.run.specs.Limits.{wantsSamples}
 use Rattle.run.specs.Plan.{planOf}
 use Rattle.rules.specs.Rules.{integrate}
 use Rattle.whole.specs.Whole.{IsWhole}
@@ -38,7 +39,7 @@ module _ {s : Settings} {t0 tf : Float} {z0 zf hz : ℤ} (b : Bounds s t0 tf z0 
       record {
         ends-at = w;
         in-steps = k ∙ m .steps;
-        samples = c .samples ∙ ap (λ (i : ℕ). cond (s .samples) (i + 1) 0) (m .steps);
+        samples = c .samples ∙ ap (λ (i : ℕ). cond (wantsSamples s) (i + 1) 0) (m .steps);
         fewest = c .fewest;
         limited = c .limited;
         at-least = x .at-least;
@@ -127,7 +128,7 @@ module _ {s : Settings} {t0 tf : Float} {z0 zf hz : ℤ} (b : Bounds s t0 tf z0 
     unfolding onTime clockwork stepsOf planOf
     tails-on-time r0 v0 e h =
         always-follows (clockwork p (tails (K - 1))) (onTime s t0 tf z0 zf H)
-        (λ (n : ℕ) (t : Float) (c : (s .samples ≡ true) × (n ≤ stepsOf (tails (K - 1))) × (t ≡ sampleTime p (tails (K - 1)) n)). let g = sample-tails n t h (c .1) (c .2) in (c .0, g .0, g .1))
+        (λ (n : ℕ) (t : Float) (c : (wantsSamples s ≡ true) × (n ≤ stepsOf (tails (K - 1))) × (t ≡ sampleTime p (tails (K - 1)) n)). let g = sample-tails n t h (c .1) (c .2) in (c .0, g .0, g .1))
         (λ (a n : ℕ) (t : Float) (steps startups : ℕ) (c : ((t ≡ tf) × (steps ≡ K - 1 + 1)) × Counted p (tails (K - 1)) a n startups).
         on-time (tails (K - 1)) a n t steps startups (same-tails p S H h) (subst (λ (y : Float). IsWhole y zf) (sym (c .0 .0)) (b .end-whole)) (c .0 .1) (c .1))
         (λ (a n : ℕ) (c : ⊥ × ((startups : ℕ) × Counted p (tails (K - 1)) a n startups)). c .0)
@@ -137,7 +138,7 @@ module _ {s : Settings} {t0 tf : Float} {z0 zf hz : ℤ} (b : Bounds s t0 tf z0 
     unfolding onTime clockwork stepsOf planOf
     arrives-on-time r0 v0 u e X h =
         always-follows (clockwork p (arrives u K)) (onTime s t0 tf z0 zf H)
-        (λ (n : ℕ) (t : Float) (c : (s .samples ≡ true) × (n ≤ stepsOf (arrives u K)) × (t ≡ sampleTime p (arrives u K) n)). let g = sample-arrives u n t h (c .1) (c .2) in (c .0, g .0, g .1))
+        (λ (n : ℕ) (t : Float) (c : (wantsSamples s ≡ true) × (n ≤ stepsOf (arrives u K)) × (t ≡ sampleTime p (arrives u K) n)). let g = sample-arrives u n t h (c .1) (c .2) in (c .0, g .0, g .1))
         (λ (a n : ℕ) (t : Float) (steps startups : ℕ) (c : ((t ≡ u) × (steps ≡ K)) × Counted p (arrives u K) a n startups).
         on-time (arrives u K) a n t steps startups (same-arrives p S H u h) (end t (subst (λ (y : Float). Along d y (P + S) Q) (sym (c .0 .0)) X)) (c .0 .1) (c .1))
         (λ (a n : ℕ) (c : ⊥ × ((startups : ℕ) × Counted p (arrives u K) a n startups)). c .0)

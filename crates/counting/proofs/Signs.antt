@@ -12,11 +12,11 @@ use lib.Ieee.Bits.{is-false}
 use Rattle.triple.specs.declared.Triple.{Triple}
 use Rattle.triple.specs.declared.State.{State}
 use Rattle.triple.specs.Arithmetic.{nought, minus}
-use Rattle.triple.specs.Size.{absolute, larger, sizeOf}
+use Rattle.triple.specs.Size.{absolute, largerOf, sizeOf}
 use Rattle.triple.specs.Nine.{at}
 use Rattle.startup.specs.declared.Widest.{Widest}
-use Rattle.startup.specs.Passes.{tiny, widened, calm, settled}
-use Rattle.run.specs.Formulas.{still, rests}
+use Rattle.startup.specs.Passes.{tiny, widened, calmAt, isSettled}
+use Rattle.run.specs.Formulas.{isStill, isAtRest}
 use Rattle.whole.proofs.Short.{Clear, round-clear}
 
 -- not negative, or NaN
@@ -44,15 +44,15 @@ plain-absolute nan = tt
 plain-absolute (inf s) = tt
 plain-absolute (fin s m e) = tt
 
-plain-larger : (x y : Float) → Plain x → Plain y → Plain (larger x y)
-unfolding larger
+plain-larger : (x y : Float) → Plain x → Plain y → Plain (largerOf x y)
+unfolding largerOf
 plain-larger x y h k = plain-cond (lt x y) y x k h
 
 pub plain-size : (a : Triple) → Plain (sizeOf a)
 unfolding sizeOf
 plain-size a =
-    plain-cond (isNan (a .x) || isNan (a .y) || isNan (a .z)) nan (larger (larger (absolute (a .x)) (absolute (a .y))) (absolute (a .z))) tt
-    (plain-larger (larger (absolute (a .x)) (absolute (a .y))) (absolute (a .z)) (plain-larger (absolute (a .x)) (absolute (a .y)) (plain-absolute (a .x)) (plain-absolute (a .y))) (plain-absolute (a .z)))
+    plain-cond (isNan (a .x) || isNan (a .y) || isNan (a .z)) nan (largerOf (largerOf (absolute (a .x)) (absolute (a .y))) (absolute (a .z))) tt
+    (plain-larger (largerOf (absolute (a .x)) (absolute (a .y))) (absolute (a .z)) (plain-larger (absolute (a .x)) (absolute (a .y)) (plain-absolute (a .x)) (plain-absolute (a .y))) (plain-absolute (a .z)))
 
 -- ---- sums and quotients
 plain-add : (x y : Float) → Plain x → Plain y → Plain (add binary64 x y)
@@ -120,8 +120,8 @@ pub record PlainWidest (w : Widest) : Type 0 where
   pub delta : Plain (w .delta)
   pub mag : Plain (w .mag)
 
-pub startup-goes-on : (tol : Float) (w : Widest) → PlainWidest w → le tol nought ≡ true → settled tol w ≡ false
-unfolding settled
+pub startup-goes-on : (tol : Float) (w : Widest) → PlainWidest w → le tol nought ≡ true → isSettled tol w ≡ false
+unfolding isSettled
 startup-goes-on tol w d h = not-below (div binary64 (w .delta) (w .mag)) tol (plain-div (w .delta) (w .mag) (d .delta) (d .mag)) h
 
 pub plain-widened : (w : Widest) (before after : Triple) → PlainWidest w → PlainWidest (widened w before after)
@@ -132,17 +132,17 @@ plain-widened w before after h =
       mag = plain-larger (w .mag) (sizeOf after) (h .mag) (plain-size after);
     }
 
-pub plain-calm : (a : List Triple) → PlainWidest (calm a)
-unfolding calm tiny
+pub plain-calm : (a : List Triple) → PlainWidest (calmAt a)
+unfolding calmAt tiny
 plain-calm a = plain-widened (record { delta = nought; mag = tiny }) (at a 4) (at a 4) (record { delta = tt; mag = plain-round 1 (10 ^ 30) })
 
-still-not : (tol : Float) (before after : Triple) → le tol nought ≡ true → still tol before after ≡ false
-unfolding still tiny
+still-not : (tol : Float) (before after : Triple) → le tol nought ≡ true → isStill tol before after ≡ false
+unfolding isStill tiny
 still-not tol before after h =
     not-below (div binary64 (sizeOf (minus after before)) (add binary64 (sizeOf after) tiny)) tol
     (plain-div (sizeOf (minus after before)) (add binary64 (sizeOf after) tiny) (plain-size (minus after before))
     (plain-add (sizeOf after) tiny (plain-size after) (plain-round 1 (10 ^ 30)))) h
 
-pub corrector-goes-on : (tol : Float) (before after : State) → le tol nought ≡ true → rests tol before after ≡ false
-unfolding rests
-corrector-goes-on tol before after h = ap (λ (b : Bool). b && still tol (before .v) (after .v)) (still-not tol (before .r) (after .r) h)
+pub corrector-goes-on : (tol : Float) (before after : State) → le tol nought ≡ true → isAtRest tol before after ≡ false
+unfolding isAtRest
+corrector-goes-on tol before after h = ap (λ (b : Bool). b && isStill tol (before .v) (after .v)) (still-not tol (before .r) (after .r) h)

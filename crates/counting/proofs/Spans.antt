@@ -10,8 +10,8 @@ use lib.Ieee.{Float, binary64, add, sub, div, lt, ofInt}
 use Rattle.triple.specs.Size.{absolute}
 use Rattle.startup.specs.Points.{offset, timeAt}
 use Rattle.run.specs.declared.Plan.{Plan}
-use Rattle.run.specs.Plan.{direction, tooNear}
-use Rattle.run.specs.Formulas.{remains, goesOn, isShort}
+use Rattle.run.specs.Plan.{directionOf, isTooNear}
+use Rattle.run.specs.Formulas.{leftAt, isDue, isTail}
 use Rattle.rules.specs.Asked.{clock}
 use Rattle.whole.proofs.Exact.{Is, move, sub-whole, lt-whole, nought-whole}
 use Rattle.whole.proofs.Integers.{whole-ofInt}
@@ -23,7 +23,7 @@ pub record Span (d : Bool) (p : Plan) (P Q S H : ℕ) : Type 0 where
   pub start : Along d (p .t0) P Q
   pub goal : Along d (p .tf) (P + S) Q
   pub pace : Along d (p .h) H 0
-  pub way : Along d (direction (p .t0) (p .tf)) 1 0
+  pub way : Along d (directionOf (p .t0) (p .tf)) 1 0
   pub low : Q ≤ P + 2 ^ 50
   pub high : P + S ≤ Q + 2 ^ 50
   pub moves : 0 < H
@@ -36,19 +36,19 @@ module _ {d : Bool} {p : Plan} {P Q S H : ℕ} (s : Span d p P Q S H) where
   left-on x l X = let a = s .low in let b = s .high in move-along S x (sub-along (s .goal) X (omega arith) (omega arith)) (omega arith)
 
   -- ---- the tests
-  pub goes-on : {t : Float} (x : ℕ) → x ≤ S → Along d t (P + x) Q → goesOn p t ≡ ltb x S
-  unfolding goesOn
+  pub goes-on : {t : Float} (x : ℕ) → x ≤ S → Along d t (P + x) Q → isDue p t ≡ ltb x S
+  unfolding isDue
   goes-on x l X =
       let a = s .low in
       let b = s .high in
       lt-whole nought-whole (mul-along (left-on x l X) (s .way) (omega arith) (omega arith)) ∙ ap (λ (z : ℕ). ltb z (S + 0)) (zero-add x) ∙ ap (λ (z : ℕ). ltb x z) (add-zero S)
 
-  pub is-short : {t : Float} (x : ℕ) → x ≤ S → Along d t (P + x) Q → isShort p t ≡ ltb (S - x) H
-  unfolding isShort remains
+  pub is-short : {t : Float} (x : ℕ) → x ≤ S → Along d t (P + x) Q → isTail p t ≡ ltb (S - x) H
+  unfolding isTail leftAt
   is-short x l X = let a = s .low in let b = s .high in short-along (left-on x l X) (s .pace) l (omega arith) (s .moves) (s .slow)
 
-  pub far-enough : tooNear p ≡ false
-  unfolding tooNear
+  pub far-enough : isTooNear p ≡ false
+  unfolding isTooNear
   far-enough =
       ap (λ (b : Bool). b || lt (absolute (div binary64 (sub binary64 (p .tf) (p .t0)) (p .h))) (ofInt binary64 (pos 8))) (apart-along (s .pace) (s .moves))
       ∙ far-along (left-on 0 (omega arith) (move-along (P + 0) Q (s .start) (omega arith))) (s .pace) (s .moves) (let g = s .far in omega arith)

@@ -13,11 +13,11 @@ use borrow.Author.Tests.{eqb-true, ne-eqb, le-ltb}
 use Rattle.triple.specs.Arithmetic.{nought}
 use Rattle.triple.specs.Size.{absolute}
 use Rattle.run.specs.declared.Settings.{Settings}
-use Rattle.run.specs.Plan.{direction, planOf, tooNear}
+use Rattle.run.specs.Plan.{directionOf, planOf, isTooNear}
 use Rattle.whole.proofs.Short.{Clear, round-clear}
 use Rattle.whole.proofs.Quotient.{round-neg}
 use Rattle.counting.specs.Starred.{isFinite, NoSpan, NoStep}
-use Rattle.counting.proofs.Starts.{too-near}
+use Rattle.counting.proofs.Starts.{near-start}
 
 -- ---- zeros
 zero-round : (s : Bool) (c : ℕ) → 0 < c → round binary64 s 0 c ≡ fin s 0 (pos 0)
@@ -77,8 +77,8 @@ known-step nan t h = absurd (true≢false h)
 known-step (inf s) t h = tt
 known-step (fin s m e) t h = known-round (unlike false t) (m * up e * (1 * 1)) (down e * 1)
 
-way-is : (t0 tf : Float) → (t : Bool) × (direction t0 tf ≡ fin t 1 (pos 0))
-unfolding direction neg
+way-is : (t0 tf : Float) → (t : Bool) × (directionOf t0 tf ≡ fin t 1 (pos 0))
+unfolding directionOf neg
 way-is t0 tf = go (le t0 tf)
   where
     go : (b : Bool) → (t : Bool) × (cond b (ofInt binary64 (pos 1)) (neg (ofInt binary64 (pos 1))) ≡ fin t 1 (pos 0))
@@ -115,22 +115,22 @@ no-quotient (fin t (suc n) d) k z =
     ∙ small (unlike false t)
 
 -- ---- no span
-still-near : (s : Settings) (t0 : Float) → isFinite t0 ≡ true → isNan (s .h) ≡ false → tooNear (planOf s t0 t0) ≡ true
-unfolding tooNear planOf
+still-near : (s : Settings) (t0 : Float) → isFinite t0 ≡ true → isNan (s .h) ≡ false → isTooNear (planOf s t0 t0) ≡ true
+unfolding isTooNear planOf
 still-near s t0 f n =
     let w = way-is t0 t0 in
     ap (λ (x : Float). eq h nought || lt (absolute (div binary64 x h)) (ofInt binary64 (pos 8))) (gone t0 f)
     ∙ go (eq h nought) refl (subst (λ (x : Float). Known (mul binary64 (absolute (s .h)) x)) (sym (w .1)) (known-step (s .h) (w .0) n))
   where
     h : Float
-    h = mul binary64 (absolute (s .h)) (direction t0 t0)
+    h = mul binary64 (absolute (s .h)) (directionOf t0 t0)
 
     go : (b : Bool) → eq h nought ≡ b → Known h → b || lt (absolute (div binary64 nought h)) (ofInt binary64 (pos 8)) ≡ true
     go true e k = refl
     go false e k = no-quotient h k e
 
 pub no-span : NoSpan
-no-span s t0 r0 v0 l f n = too-near s t0 t0 r0 v0 l (still-near s t0 f n)
+no-span s t0 r0 v0 l f n = near-start s t0 t0 r0 v0 l (still-near s t0 f n)
 
 -- ---- no step
 zero-step : (x : Float) (t : Bool) → eq x nought ≡ true → eq (mul binary64 (absolute x) (fin t 1 (pos 0))) nought ≡ true
@@ -149,9 +149,9 @@ zero-step (fin s m e) t h =
     both false b h = h
 
 pub no-step : NoStep
-unfolding tooNear planOf
+unfolding isTooNear planOf
 no-step s t0 tf r0 v0 l z =
     let w = way-is t0 tf in
-    too-near s t0 tf r0 v0 l
-    (ap (λ (b : Bool). b || lt (absolute (div binary64 (sub binary64 tf t0) (mul binary64 (absolute (s .h)) (direction t0 tf)))) (ofInt binary64 (pos 8)))
+    near-start s t0 tf r0 v0 l
+    (ap (λ (b : Bool). b || lt (absolute (div binary64 (sub binary64 tf t0) (mul binary64 (absolute (s .h)) (directionOf t0 tf)))) (ofInt binary64 (pos 8)))
     (subst (λ (x : Float). eq (mul binary64 (absolute (s .h)) x) nought ≡ true) (sym (w .1)) (zero-step (s .h) (w .0) z)))

@@ -1,27 +1,36 @@
--- With both tolerances zero or less what comes out is foretold by the clock; the table is one computed test of that.
+-- With both tolerances zero or less what comes out is foretold by the clock, and a curve is read by its definition; the table is one computed test
+-- of both.
 use mathlib.Core.Path.{_≡_, refl, sym, ap, _∙_, subst}
 use Prim.Native.Nat.{ℕ, zero, suc, _+_, _-_, _≤_, _<_}
 use native.Mathlib.Omega.{arith}
-use mathlib.Core.Bool.{Bool, true, false, _&&_, cond, false≢true}
+use mathlib.Core.Bool.{Bool, true, false, _&&_, cond}
 use mathlib.Core.List.{List, [], _∷_}
 use lib.ListN.{length}
 use lib.Ieee.{Float, binary64, ofInt, round, neg, add, sub, mul, div, lt, le, eq}
 use Rattle.triple.specs.declared.Triple.{Triple}
-use Rattle.triple.specs.Arithmetic.{nought}
+use Rattle.triple.specs.Arithmetic.{nought, plus, minus, times}
 use Rattle.triple.specs.Size.{absolute}
+use Rattle.refusals.specs.Numbers.{numberOf}
+use Rattle.quintic.specs.Quintic.{delta1, delta2, delta3, curveOf, positionOn, velocityOn, quinticHermite}
 use Rattle.startup.specs.Points.{offset, timeAt}
 use Rattle.run.specs.declared.Settings.{Settings}
 use Rattle.run.specs.declared.Plan.{Plan}
-use Rattle.run.specs.Plan.{withinLimits, direction, planOf, tooNear}
-use Rattle.run.specs.Formulas.{remains, goesOn, isShort}
+use Rattle.run.specs.Plan.{directionOf, planOf, isTooNear}
+use Rattle.run.specs.Limits.{areWithinLimits, wantsSamples}
+use Rattle.run.specs.Formulas.{leftAt, isDue, isTail}
+use Rattle.run.proofs.Counts.{both}
+use Rattle.gauss_jackson.specs.declared.Verdict.{Verdict}
+use Rattle.gauss_jackson.specs.declared.Verdict.the-variants.{Fine, Refuse}
+use Rattle.gauss_jackson.specs.Answers.{verdictOn}
 use Rattle.rules.specs.Rules.{integrate}
+use Rattle.rules.specs.Walk.{Stop, beginBy}
 use Rattle.rules.specs.Asked.{clock}
 use Rattle.counting.specs.Paths.{Always}
 use Rattle.counting.specs.Clockwork.{Fate, arrives, tails, runs-out, fateFrom, fateOf, stepsOf, plainSteps, tailAnswers, most, NeverStops, Counted, gridTime, sampleTime, clockwork}
-use Rattle.counting.proofs.Starts.{too-near, over-limit}
+use Rattle.counting.proofs.Starts.{begin-by}
 use Rattle.counting.proofs.Claims.{always-follows}
 use Rattle.counting.proofs.Marching.{by-the-clock}
-use Rattle.counting.specs.Starred.{Expected, no-run, finishes, exceeds-at, At, expecting, Meets, Row, starredRows, AllMeet}
+use Rattle.counting.specs.Starred.{Expected, no-run, finishes, exceeds-at, reads, At, expecting, Accepted, Example, run, curve, Meets, Row, starredRows, AllMeet, Starred}
 
 -- the times of the first n samples
 unfoldable timesUpTo : Plan → Fate → ℕ → (n : ℕ) → List Float
@@ -29,7 +38,7 @@ timesUpTo p f i zero = []
 timesUpTo p f i (suc n) = sampleTime p f i ∷ timesUpTo p f (i + 1) n
 
 unfoldable allTimes : Plan → Fate → List Float
-allTimes p f = cond (p .settings .samples) (timesUpTo p f 0 (stepsOf f + 1)) []
+allTimes p f = cond (wantsSamples (p .settings)) (timesUpTo p f 0 (stepsOf f + 1)) []
 
 unfoldable ofFate : Plan → Fate → Expected
 ofFate p (arrives t n) = finishes t n (most p (arrives t n) (p .settings .«max_startup_iters»)) (allTimes p (arrives t n))
@@ -47,35 +56,40 @@ pick-is true f g = refl
 pick-is false f g = refl
 
 unfoldable fateRun : (left : ℕ) → Plan → Float → ℕ → Fate
-fateRun zero p t n = pick (goesOn p t) (λ (u : Unit {0}). runs-out n) (λ (u : Unit {0}). arrives t n)
+fateRun zero p t n = pick (isDue p t) (λ (u : Unit {0}). runs-out n) (λ (u : Unit {0}). arrives t n)
 fateRun (suc left) p t n =
-    pick (goesOn p t) (λ (u : Unit {0}). pick (isShort p t) (λ (v : Unit {0}). tails n) (λ (v : Unit {0}). fateRun left p (add binary64 t (p .h)) (n + 1)))
+    pick (isDue p t) (λ (u : Unit {0}). pick (isTail p t) (λ (v : Unit {0}). tails n) (λ (v : Unit {0}). fateRun left p (add binary64 t (p .h)) (n + 1)))
     (λ (u : Unit {0}). arrives t n)
 
 fate-run : (left : ℕ) (p : Plan) (t : Float) (n : ℕ) → fateRun left p t n ≡ fateFrom left p t n
 unfolding fateRun fateFrom
-fate-run zero p t n = pick-is (goesOn p t) _ _
+fate-run zero p t n = pick-is (isDue p t) _ _
 fate-run (suc left) p t n =
-    pick-is (goesOn p t) _ _
-    ∙ ap (λ (f : Fate). cond (goesOn p t) f (arrives t n)) (pick-is (isShort p t) _ _ ∙ ap (λ (f : Fate). cond (isShort p t) (tails n) f) (fate-run left p (add binary64 t (p .h)) (n + 1)))
+    pick-is (isDue p t) _ _
+    ∙ ap (λ (f : Fate). cond (isDue p t) f (arrives t n)) (pick-is (isTail p t) _ _ ∙ ap (λ (f : Fate). cond (isTail p t) (tails n) f) (fate-run left p (add binary64 t (p .h)) (n + 1)))
 
 unfoldable runFate : Plan → Fate
 runFate p = fateRun (p .settings .«max_steps» - 4) p (timeAt (p .t0) (p .h) 8) 4
 
-unfoldable foretold : Settings → Float → Float → Expected
-foretold s t0 tf = cond (withinLimits s) (cond (tooNear (planOf s t0 tf)) (no-run 1) (ofFate (planOf s t0 tf) (runFate (planOf s t0 tf)))) (no-run 5)
+unfoldable foretoldBy : Verdict → Plan → Expected
+foretoldBy Fine p = ofFate p (runFate p)
+foretoldBy (Refuse e) p = no-run (numberOf e)
+
+unfoldable foretold : Example → Expected
+foretold (run s t0 tf) = foretoldBy (verdictOn (planOf s t0 tf)) (planOf s t0 tf)
+foretold (curve before after t) = reads (quinticHermite before after t)
 
 -- ---- the computed test
 unfoldable foretoldRows : List Row → List Expected
 foretoldRows [] = []
-foretoldRows (r ∷ rs) = foretold (r .settings) (r .t0) (r .tf) ∷ foretoldRows rs
+foretoldRows (r ∷ rs) = foretold (r .example) ∷ foretoldRows rs
 
 unfoldable expectedRows : List Row → List Expected
 expectedRows [] = []
 expectedRows (r ∷ rs) = r .expected ∷ expectedRows rs
 
 rows-agree : foretoldRows starredRows ≡ expectedRows starredRows
-unfolding foretoldRows expectedRows foretold ofFate withinLimits tooNear planOf direction runFate fateRun pick goesOn isShort remains timeAt offset allTimes timesUpTo sampleTime gridTime clock most plainSteps tailAnswers stepsOf absolute ofInt round add sub mul div neg lt le eq
+unfolding foretoldRows expectedRows foretold foretoldBy verdictOn ofFate areWithinLimits wantsSamples isTooNear planOf directionOf runFate fateRun pick isDue isTail leftAt timeAt offset allTimes timesUpTo sampleTime gridTime clock most plainSteps tailAnswers stepsOf absolute quinticHermite positionOn velocityOn curveOf delta1 delta2 delta3 plus minus times ofInt round add sub mul div neg lt le eq
 rows-agree = refl
 
 -- ---- the law: what is foretold comes out
@@ -90,16 +104,16 @@ unfolding timesUpTo
 times-count p f i zero = refl
 times-count p f i (suc n) = ap suc (times-count p f (i + 1) n)
 
-all-at : (p : Plan) (f : Fate) (n : ℕ) (x : Float) → (p .settings .samples ≡ true) × (n ≤ stepsOf f) × (x ≡ sampleTime p f n) → At (allTimes p f) n x
+all-at : (p : Plan) (f : Fate) (n : ℕ) (x : Float) → (wantsSamples (p .settings) ≡ true) × (n ≤ stepsOf f) × (x ≡ sampleTime p f n) → At (allTimes p f) n x
 unfolding allTimes
 all-at p f n x h =
     let l = h .1 in
     let z : 0 + n ≡ n = omega arith in
     subst (λ (b : Bool). At (cond b (timesUpTo p f 0 (stepsOf f + 1)) []) n x) (sym (h .0)) (times-at p f 0 (stepsOf f + 1) n x (omega arith) (h .2 ∙ sym (ap (sampleTime p f) z)))
 
-all-count : (p : Plan) (f : Fate) → cond (p .settings .samples) (stepsOf f + 1) 0 ≡ length (allTimes p f)
+all-count : (p : Plan) (f : Fate) → cond (wantsSamples (p .settings)) (stepsOf f + 1) 0 ≡ length (allTimes p f)
 unfolding allTimes
-all-count p f = go (p .settings .samples)
+all-count p f = go (wantsSamples (p .settings))
   where
     go : (b : Bool) → cond b (stepsOf f + 1) 0 ≡ length (cond b (timesUpTo p f 0 (stepsOf f + 1)) [])
     go true = sym (times-count p f 0 (stepsOf f + 1))
@@ -124,40 +138,44 @@ module _ (p : Plan) (never : NeverStops p) where
       (λ (e n : ℕ) (c : ⊥ × ((s : ℕ) × Counted p (tails m) e n s)). c .0) 0 0 (integrate p r0 v0) h
   fate-meets (runs-out m) r0 v0 h =
       always-follows (clockwork p (runs-out m)) (expecting (ofFate p (runs-out m)))
-      (λ (n : ℕ) (t : Float) (c : (p .settings .samples ≡ true) × (n ≤ stepsOf (runs-out m)) × (t ≡ sampleTime p (runs-out m) n)). tt)
+      (λ (n : ℕ) (t : Float) (c : (wantsSamples (p .settings) ≡ true) × (n ≤ stepsOf (runs-out m)) × (t ≡ sampleTime p (runs-out m) n)). tt)
       (λ (e n : ℕ) (t : Float) (steps startups : ℕ) (c : ⊥ × Counted p (runs-out m) e n startups). c .0)
       (λ (e n : ℕ) (c : Unit {0} × ((s : ℕ) × Counted p (runs-out m) e n s)). met (runs-out m) e n (c .1 .0) (c .1 .1)) 0 0 (integrate p r0 v0) h
 
 module _ (s : Settings) (t0 tf : Float) (r0 v0 : Triple) (never : NeverStops (planOf s t0 tf)) where
-  meets-fate : (f : Fate) → Always (clockwork (planOf s t0 tf) f) 0 0 (integrate (planOf s t0 tf) r0 v0) → Meets s t0 tf r0 v0 (ofFate (planOf s t0 tf) f)
-  unfolding ofFate
-  meets-fate (arrives u m) h = fate-meets (planOf s t0 tf) never (arrives u m) r0 v0 h
-  meets-fate (tails m) h = fate-meets (planOf s t0 tf) never (tails m) r0 v0 h
-  meets-fate (runs-out m) h = fate-meets (planOf s t0 tf) never (runs-out m) r0 v0 h
+  abbrev p : Plan
+  p = planOf s t0 tf
 
-  run-is : fateOf (planOf s t0 tf) ≡ runFate (planOf s t0 tf)
+  meets-fate : (f : Fate) → Accepted s t0 tf r0 v0 → Always (clockwork p f) 0 0 (integrate p r0 v0) → Meets r0 v0 (run s t0 tf) (ofFate p f)
+  unfolding ofFate
+  meets-fate (arrives u m) g h = (g, fate-meets p never (arrives u m) r0 v0 h)
+  meets-fate (tails m) g h = (g, fate-meets p never (tails m) r0 v0 h)
+  meets-fate (runs-out m) g h = (g, fate-meets p never (runs-out m) r0 v0 h)
+
+  run-is : fateOf p ≡ runFate p
   unfolding runFate fateOf
   run-is = sym (fate-run _ _ _ _)
 
-  foretells : Meets s t0 tf r0 v0 (foretold s t0 tf)
-  unfolding foretold
-  foretells = go (withinLimits s) (tooNear (planOf s t0 tf)) refl refl
-    where
-      go : (a b : Bool) → withinLimits s ≡ a → tooNear (planOf s t0 tf) ≡ b
-          → Meets s t0 tf r0 v0 (cond a (cond b (no-run 1) (ofFate (planOf s t0 tf) (runFate (planOf s t0 tf)))) (no-run 5))
-      go true true h k = too-near s t0 tf r0 v0 h k
-      go true false h k = meets-fate (runFate (planOf s t0 tf))
-          (subst (λ (f : Fate). Always (clockwork (planOf s t0 tf) f) 0 0 (integrate (planOf s t0 tf) r0 v0)) run-is (by-the-clock (planOf s t0 tf) r0 v0))
-      go false b h k = over-limit s t0 tf r0 v0 b h k
+  by-verdict : (v : Verdict) → verdictOn p ≡ v → Meets r0 v0 (run s t0 tf) (foretoldBy v p)
+  unfolding foretoldBy beginBy
+  by-verdict Fine e =
+      meets-fate (runFate p) (begin-by s t0 tf r0 v0 Fine e) (subst (λ (f : Fate). Always (clockwork p f) 0 0 (integrate p r0 v0)) run-is (by-the-clock p r0 v0))
+  by-verdict (Refuse r) e = ap (λ (x : Stop). x .said) (begin-by s t0 tf r0 v0 (Refuse r) e)
 
 -- ---- all rows
+unfoldable neverStops : Example → Bool
+neverStops (run s t0 tf) = le (s .«startup_tol») nought && le (s .«corrector_tol») nought
+neverStops (curve before after t) = true
+
 unfoldable neverAll : List Row → Bool
 neverAll [] = true
-neverAll (r ∷ rs) = le (r .settings .«startup_tol») nought && (le (r .settings .«corrector_tol») nought && neverAll rs)
+neverAll (r ∷ rs) = neverStops (r .example) && neverAll rs
 
-both : (a b : Bool) → a && b ≡ true → (a ≡ true) × (b ≡ true)
-both true b h = (refl, h)
-both false b h = absurd (false≢true h)
+foretells : (r0 v0 : Triple) (x : Example) → neverStops x ≡ true → Meets r0 v0 x (foretold x)
+unfolding foretold neverStops planOf
+foretells r0 v0 (run s t0 tf) n =
+    let b = both _ _ n in by-verdict s t0 tf r0 v0 (record { startup = b .0; corrector = b .1 }) (verdictOn (planOf s t0 tf)) refl
+foretells r0 v0 (curve before after t) n = refl
 
 first : List Expected → Expected
 first [] = no-run 0
@@ -168,19 +186,16 @@ later [] = []
 later (x ∷ xs) = xs
 
 all-meet : (r0 v0 : Triple) (rs : List Row) → neverAll rs ≡ true → foretoldRows rs ≡ expectedRows rs → AllMeet r0 v0 rs
-unfolding AllMeet neverAll foretoldRows expectedRows planOf first later
+unfolding AllMeet neverAll foretoldRows expectedRows first later
 all-meet r0 v0 [] n h = tt
 all-meet r0 v0 (r ∷ rs) n h =
-    let a = both (le (r .settings .«startup_tol») nought) (le (r .settings .«corrector_tol») nought && neverAll rs) n in
-    let b = both (le (r .settings .«corrector_tol») nought) (neverAll rs) (a .1) in (
-      subst (Meets (r .settings) (r .t0) (r .tf) r0 v0) (ap first h) (foretells (r .settings) (r .t0) (r .tf) r0 v0 (record { startup = a .0; corrector = b .0 })),
-      all-meet r0 v0 rs (b .1) (ap later h),
-    )
+    let b = both _ _ n in
+    (subst (Meets r0 v0 (r .example)) (ap first h) (foretells r0 v0 (r .example) (b .0)), all-meet r0 v0 rs (b .1) (ap later h))
 
 never-all : neverAll starredRows ≡ true
-unfolding neverAll le lt eq
+unfolding neverAll neverStops le lt eq
 never-all = refl
 
 -- the examples marked * in 01, whatever the accelerations are
-pub starred : (r0 v0 : Triple) → AllMeet r0 v0 starredRows
+pub starred : Starred
 starred r0 v0 = all-meet r0 v0 starredRows never-all rows-agree

@@ -1,29 +1,29 @@
--- What a start is told, by the two tests.
-use mathlib.Core.Path.{_≡_, ap, _∙_}
+-- What a start is told, by its verdict.
+use mathlib.Core.Path.{_≡_, ap}
 use mathlib.Core.Bool.{Bool, true, false, cond}
 use mathlib.Core.List.{[]}
 use lib.Ieee.{Float}
 use Rattle.triple.specs.declared.Triple.{Triple}
+use Rattle.refusals.specs.declared.Refusal.the-variants.{StepNotFinite, Setting}
 use Rattle.run.specs.declared.Settings.{Settings}
-use Rattle.run.specs.Plan.{withinLimits, planOf, tooNear}
+use Rattle.run.specs.Plan.{planOf, isTooNear}
+use Rattle.run.specs.Limits.{areWithinLimits}
+use Rattle.gauss_jackson.specs.declared.Verdict.{Verdict}
+use Rattle.gauss_jackson.specs.declared.Verdict.the-variants.{Fine, Refuse}
+use Rattle.gauss_jackson.specs.Answers.{verdictOn}
+use Rattle.gauss_jackson.proofs.Verdicts.{verdict-is}
 use Rattle.rules.specs.Rules.{integrate}
-use Rattle.rules.specs.Walk.{refused, over, Stop, settle, begin}
+use Rattle.rules.specs.Walk.{refused, Stop, settle, beginBy, begin}
 
--- a start: refused by 5, then by 1, and else the whole tree
-abbrev begins : Settings → Float → Float → Triple → Triple → Bool → Bool → Stop
-begins s t0 tf r0 v0 a b =
-    cond a (cond b (record { said = refused 1; out = []; line = over }) (settle (integrate (planOf s t0 tf) r0 v0) 0 0 [])) (record { said = refused 5; out = []; line = over })
+module _ (s : Settings) (t0 tf : Float) (r0 v0 : Triple) where
+  pub begin-by : (v : Verdict) → verdictOn (planOf s t0 tf) ≡ v → begin s t0 tf r0 v0 ≡ beginBy v (planOf s t0 tf) r0 v0
+  unfolding begin
+  begin-by v e = ap (λ (u : Verdict). beginBy u (planOf s t0 tf) r0 v0) e
 
-begin-is : (s : Settings) (t0 tf : Float) (r0 v0 : Triple) (a b : Bool) → withinLimits s ≡ a → tooNear (planOf s t0 tf) ≡ b → begin s t0 tf r0 v0 ≡ begins s t0 tf r0 v0 a b
-unfolding begin
-begin-is s t0 tf r0 v0 a b h k = ap (λ (c : Bool). begins s t0 tf r0 v0 c (tooNear (planOf s t0 tf))) h ∙ ap (begins s t0 tf r0 v0 a) k
+  pub accepted-start : areWithinLimits s ≡ true → isTooNear (planOf s t0 tf) ≡ false → begin s t0 tf r0 v0 ≡ settle (integrate (planOf s t0 tf) r0 v0) 0 0 []
+  unfolding planOf beginBy
+  accepted-start h k = begin-by Fine (verdict-is (planOf s t0 tf) true false h k)
 
-pub accepted-start : (s : Settings) (t0 tf : Float) (r0 v0 : Triple) → withinLimits s ≡ true → tooNear (planOf s t0 tf) ≡ false
-    → begin s t0 tf r0 v0 ≡ settle (integrate (planOf s t0 tf) r0 v0) 0 0 []
-accepted-start s t0 tf r0 v0 h k = begin-is s t0 tf r0 v0 true false h k
-
-pub too-near : (s : Settings) (t0 tf : Float) (r0 v0 : Triple) → withinLimits s ≡ true → tooNear (planOf s t0 tf) ≡ true → begin s t0 tf r0 v0 .said ≡ refused 1
-too-near s t0 tf r0 v0 h k = ap (λ (x : Stop). x .said) (begin-is s t0 tf r0 v0 true true h k)
-
-pub over-limit : (s : Settings) (t0 tf : Float) (r0 v0 : Triple) (b : Bool) → withinLimits s ≡ false → tooNear (planOf s t0 tf) ≡ b → begin s t0 tf r0 v0 .said ≡ refused 5
-over-limit s t0 tf r0 v0 b h k = ap (λ (x : Stop). x .said) (begin-is s t0 tf r0 v0 false b h k)
+  pub near-start : areWithinLimits s ≡ true → isTooNear (planOf s t0 tf) ≡ true → begin s t0 tf r0 v0 .said ≡ refused 1
+  unfolding planOf beginBy
+  near-start h k = ap (λ (x : Stop). x .said) (begin-by (Refuse StepNotFinite) (verdict-is (planOf s t0 tf) true true h k))

@@ -12,11 +12,11 @@ use Rattle.triple.specs.declared.Triple.{Triple}
 use Rattle.triple.specs.declared.State.{State}
 use Rattle.triple.specs.declared.Point.{Point}
 use Rattle.triple.specs.Nine.{at, nineZeros}
-use Rattle.rk4.specs.Rk4.{ending}
+use Rattle.rk4.specs.Rk4.{endOfStep}
 use Rattle.startup.specs.declared.Places.{Places}
 use Rattle.startup.specs.declared.Widest.{Widest}
 use Rattle.startup.specs.Points.{pointAt, placed, firstPlaces}
-use Rattle.startup.specs.Passes.{passPlaces, widened, calm, settled}
+use Rattle.startup.specs.Passes.{passPlaces, widened, calmAt, isSettled}
 use Rattle.run.specs.declared.Plan.{Plan}
 use Rattle.rules.specs.Rules.{Course, rk4, forward, backward, others, survey, renew, passes, integrate, fly}
 use Rattle.counting.specs.Paths.{Claims, Always}
@@ -37,7 +37,7 @@ module _ (c : Claims) where
 
   pub rk4-always : (e n : ℕ) (q : Point) (h : Float) (k : State → Course) → ((y : State) (e' : ℕ) → e' ≡ e + 4 → Always c e' n (k y)) → Always c e n (rk4 q h k)
   unfolding rk4 Always
-  rk4-always e n q h k f = λ (l1 l2 l3 l4 : Triple). f (ending q h l1 l2 l3 l4) (e + 1 + 1 + 1 + 1) (omega arith)
+  rk4-always e n q h k f = λ (l1 l2 l3 l4 : Triple). f (endOfStep q h l1 l2 l3 l4) (e + 1 + 1 + 1 + 1) (omega arith)
 
   forward-always : (left i e n : ℕ) (p : Plan) (x : Places) (k : Places → Course) → ((x : Places) (e' : ℕ) → e' ≡ e + 4 * left → Always c e' n (k x)) → Always c e n (forward left i p x k)
   unfolding forward
@@ -92,9 +92,9 @@ module _ (c : Claims) where
   passes-always zero m e n p x a k h u f =
       f m x a e (record { fewest = fewest-is p m (omega arith); limited = omega arith; answers = h; exactly = λ (s : NeverStops p). omega arith })
   passes-always (suc left) m e n p x a k h u f =
-      renew-always others e n p (passPlaces (p .h) x a) a (calm a) _ (plain-calm a) (λ (a' : List Triple) (w : Widest) (e' : ℕ) (g : PlainWidest w) (h' : e' ≡ e + 8).
-      cond-always e' n (settled (p .settings .«startup_tol») w) _ _
-      (λ (b : settled (p .settings .«startup_tol») w ≡ true).
+      renew-always others e n p (passPlaces (p .h) x a) a (calmAt a) _ (plain-calm a) (λ (a' : List Triple) (w : Widest) (e' : ℕ) (g : PlainWidest w) (h' : e' ≡ e + 8).
+      cond-always e' n (isSettled (p .settings .«startup_tol») w) _ _
+      (λ (b : isSettled (p .settings .«startup_tol») w ≡ true).
       f (m + 1) (passPlaces (p .h) x a) a' e'
       (record {
         fewest = fewest-one p m;
@@ -102,7 +102,7 @@ module _ (c : Claims) where
         answers = omega arith;
         exactly = λ (s : NeverStops p). absurd (true≢false (sym b ∙ startup-goes-on (p .settings .«startup_tol») w g (s .startup)));
       }))
-      (λ (b : settled (p .settings .«startup_tol») w ≡ false). passes-always left (m + 1) e' n p (passPlaces (p .h) x a) a' k (omega arith) (omega arith) f))
+      (λ (b : isSettled (p .settings .«startup_tol») w ≡ false). passes-always left (m + 1) e' n p (passPlaces (p .h) x a) a' k (omega arith) (omega arith) f))
 
   -- ---- 41 answers and 8 for each pass, and then on
   pub startup-always : (p : Plan) (r0 v0 : Triple) → ((startups : ℕ) (x : Places) (a : List Triple) (e : ℕ) → Started p e startups → Always c e 0 (fly p startups x a))

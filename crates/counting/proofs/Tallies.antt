@@ -7,6 +7,7 @@ use mathlib.Core.Bool.{Bool, cond}
 use lib.Ieee.{Float}
 use borrow.Author.Tests.{lt-ltb, le-ltb}
 use Rattle.run.specs.declared.Plan.{Plan}
+use Rattle.run.specs.Limits.{wantsSamples}
 use Rattle.counting.specs.Clockwork.{Fate, arrives, tails, stepsOf, plainSteps, tailAnswers, least, most, fewestStartups, NeverStops, Counted}
 use Rattle.counting.specs.Counting.{stepsFor, tailFor, plainFor, tailAnswersFor, leastFor, mostFor, fewestFor, leastBefore, mostBefore}
 
@@ -37,7 +38,7 @@ module _ (p : Plan) (S H : ℕ) where
       record {
         steps = omega arith;
         plain = omega arith;
-        tail = sym (ap (λ (i : ℕ). i * (4 + cond (p .settings .samples) 1 0)) t ∙ one-mul (4 + cond (p .settings .samples) 1 0));
+        tail = sym (ap (λ (i : ℕ). i * (4 + cond (wantsSamples (p .settings)) 1 0)) t ∙ one-mul (4 + cond (wantsSamples (p .settings)) 1 0));
       }
 
   pub same-arrives : (u : Float) → S ≡ stepsFor S H * H → Same p (arrives u (stepsFor S H)) S H
@@ -47,7 +48,7 @@ module _ (p : Plan) (S H : ℕ) where
       record {
         steps = refl;
         plain = omega arith;
-        tail = sym (ap (λ (i : ℕ). i * (4 + cond (p .settings .samples) 1 0)) t ∙ zero-mul (4 + cond (p .settings .samples) 1 0));
+        tail = sym (ap (λ (i : ℕ). i * (4 + cond (wantsSamples (p .settings)) 1 0)) t ∙ zero-mul (4 + cond (wantsSamples (p .settings)) 1 0));
       }
 
   -- ---- the bounds are 01's, for a number of startup passes and before the run

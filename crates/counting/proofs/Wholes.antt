@@ -9,7 +9,7 @@ use lib.Ieee.{Float, binary64, neg, le, ofInt}
 use borrow.Author.Tests.{leb-true, leb-false}
 use Rattle.triple.specs.Size.{absolute}
 use Rattle.run.specs.declared.Settings.{Settings}
-use Rattle.run.specs.Plan.{direction, planOf}
+use Rattle.run.specs.Plan.{directionOf, planOf}
 use Rattle.whole.specs.Whole.{IsWhole}
 use Rattle.whole.proofs.Exact.{Is, move, neg-whole, one-whole}
 use Rattle.whole.proofs.Integers.{plus, less, Holds, Within, sum-parts, neg-parts, le-parts, le-int, abs-int, read, write}
@@ -75,12 +75,12 @@ module _ {s : Settings} {t0 tf : Float} {z0 zf hz : ℤ} (b : Bounds s t0 tf z0 
   ordered : le t0 tf ≡ leZ z0 zf
   ordered = le-int z0 zf start-holds end-holds
 
-  way-up : leZ z0 zf ≡ true → Along false (direction t0 tf) 1 0
-  unfolding direction
+  way-up : leZ z0 zf ≡ true → Along false (directionOf t0 tf) 1 0
+  unfolding directionOf
   way-up h = record { is = subst (λ (c : Bool). Is (cond c (ofInt binary64 (pos 1)) (neg (ofInt binary64 (pos 1)))) 1 0) (sym (ordered ∙ h)) one-whole }
 
-  way-down : leZ z0 zf ≡ false → Along true (direction t0 tf) 1 0
-  unfolding direction
+  way-down : leZ z0 zf ≡ false → Along true (directionOf t0 tf) 1 0
+  unfolding directionOf
   way-down h = record { is = subst (λ (c : Bool). Is (cond c (ofInt binary64 (pos 1)) (neg (ofInt binary64 (pos 1)))) 0 1) (sym (ordered ∙ h)) (neg-whole one-whole) }
 
   pub up : leZ z0 zf ≡ true → Span false (planOf s t0 tf) (plus z0) (less z0) (spanOf z0 zf) (natAbs hz)

@@ -9,7 +9,8 @@ use Rattle.triple.specs.declared.Triple.{Triple}
 use Rattle.triple.specs.Arithmetic.{nought}
 use Rattle.startup.specs.Points.{timeAt}
 use Rattle.run.specs.declared.Plan.{Plan}
-use Rattle.run.specs.Formulas.{goesOn, isShort}
+use Rattle.run.specs.Limits.{wantsSamples}
+use Rattle.run.specs.Formulas.{isDue, isTail}
 use Rattle.rules.specs.Rules.{integrate}
 use Rattle.rules.specs.Asked.{clock}
 use Rattle.counting.specs.Paths.{Claims, Always}
@@ -22,9 +23,9 @@ pub data Fate : Type 0 where
 
 -- "While (tf - t)·dir > 0: test max_steps; [..] If abs(rem) - abs(h) < -1e-12·abs(h): [tail] Else: [..] t = t + h, one step"
 unfoldable pub fateFrom : (left : ℕ) → Plan → Float → ℕ → Fate
-fateFrom zero p t n = cond (goesOn p t) (runs-out n) (arrives t n)
+fateFrom zero p t n = cond (isDue p t) (runs-out n) (arrives t n)
 fateFrom (suc left) p t n =
-    cond (goesOn p t) (cond (isShort p t) (tails n) (fateFrom left p (add binary64 t (p .h)) (n + 1))) (arrives t n)
+    cond (isDue p t) (cond (isTail p t) (tails n) (fateFrom left p (add binary64 t (p .h)) (n + 1))) (arrives t n)
 
 -- from the end of the startup: "t = t0 + 4·h, steps = 4"
 unfoldable pub fateOf : Plan → Fate
@@ -45,7 +46,7 @@ plainSteps (runs-out n) = n - 4
 -- T(4+d): RK4's four questions, "with samples one more"
 unfoldable pub tailAnswers : Plan → Fate → ℕ
 tailAnswers p (arrives t n) = 0
-tailAnswers p (tails n) = 4 + cond (p .settings .samples) 1 0
+tailAnswers p (tails n) = 4 + cond (wantsSamples (p .settings)) 1 0
 tailAnswers p (runs-out n) = 0
 
 -- "Accepted answers lie from 41 + 8S + P + T(4+d) to 41 + 8S + P(1+C) + T(4+d), where S is the startup passes made."
@@ -70,7 +71,7 @@ pub record Counted (p : Plan) (f : Fate) (e n startups : ℕ) : Type 0 where
   pub limited : startups ≤ p .settings .«max_startup_iters»
   pub at-least : least p f startups ≤ e
   pub at-most : e ≤ most p f startups
-  pub samples : n ≡ cond (p .settings .samples) (stepsOf f + 1) 0
+  pub samples : n ≡ cond (wantsSamples (p .settings)) (stepsOf f + 1) 0
   pub exactly : NeverStops p → (startups ≡ p .settings .«max_startup_iters») × (e ≡ most p f startups)
 
 -- the points 4 to 8 of the startup, then the clock
@@ -97,7 +98,7 @@ RunsOut (runs-out m) = Unit {0}
 unfoldable pub clockwork : Plan → Fate → Claims
 clockwork p f =
     record {
-      sample = λ (n : ℕ) (t : Float). (p .settings .samples ≡ true) × (n ≤ stepsOf f) × (t ≡ sampleTime p f n);
+      sample = λ (n : ℕ) (t : Float). (wantsSamples (p .settings) ≡ true) × (n ≤ stepsOf f) × (t ≡ sampleTime p f n);
       finish = λ (e n : ℕ) (t : Float) (steps startups : ℕ). Ended p f t steps × Counted p f e n startups;
       excess = λ (e n : ℕ). RunsOut f × ((startups : ℕ) × Counted p f e n startups);
     }

@@ -9,7 +9,8 @@ use lib.Signed.{leZ}
 use lib.Ieee.{Float}
 use Rattle.triple.specs.declared.Triple.{Triple}
 use Rattle.run.specs.declared.Settings.{Settings}
-use Rattle.run.specs.Plan.{withinLimits, planOf, tooNear}
+use Rattle.run.specs.Plan.{planOf, isTooNear}
+use Rattle.run.specs.Limits.{areWithinLimits, wantsSamples}
 use Rattle.rules.specs.Rules.{integrate}
 use Rattle.whole.specs.Whole.{IsWhole}
 use Rattle.counting.specs.Paths.{Claims, Always}
@@ -38,7 +39,7 @@ plainFor span step = stepsFor span step - 4 - tailFor span step
 
 -- T(4+d): "d = 1 with samples, else 0"
 unfoldable pub tailAnswersFor : Settings → (span step : ℕ) → ℕ
-tailAnswersFor s span step = tailFor span step * (4 + cond (s .samples) 1 0)
+tailAnswersFor s span step = tailFor span step * (4 + cond (wantsSamples s) 1 0)
 
 -- "Accepted answers lie from 41 + 8S + P + T(4+d) to 41 + 8S + P(1+C) + T(4+d), where S is the startup passes made"; "C = max_corrector_iters"
 unfoldable pub leastFor : Settings → (span step startups : ℕ) → ℕ
@@ -76,14 +77,14 @@ pub record Bounds (s : Settings) (t0 tf : Float) (z0 zf hz : ℤ) : Type 0 where
   pub step-size : natAbs hz ≤ 10 ^ 9
   pub moves : 1 ≤ natAbs hz
   pub far : 8 * natAbs hz ≤ spanOf z0 zf
-  pub limits : withinLimits s ≡ true
+  pub limits : areWithinLimits s ≡ true
   pub enough : stepsFor (spanOf z0 zf) (natAbs hz) ≤ s .«max_steps»
 
 -- the finished state, after e answers and n samples: on time, in K steps, within the bounds
 pub record OnTime (s : Settings) (t0 tf : Float) (z0 zf : ℤ) (step : ℕ) (e n : ℕ) (t : Float) (steps startups : ℕ) : Type 0 where
   pub ends-at : IsWhole t zf
   pub in-steps : steps ≡ stepsFor (spanOf z0 zf) step
-  pub samples : n ≡ cond (s .samples) (stepsFor (spanOf z0 zf) step + 1) 0
+  pub samples : n ≡ cond (wantsSamples s) (stepsFor (spanOf z0 zf) step + 1) 0
   pub fewest : fewestFor s ≤ startups
   pub limited : startups ≤ s .«max_startup_iters»
   pub at-least : leastFor s (spanOf z0 zf) step startups ≤ e
@@ -97,12 +98,12 @@ pub record OnTime (s : Settings) (t0 tf : Float) (z0 zf : ℤ) (step : ℕ) (e n
 unfoldable pub onTime : Settings → (t0 tf : Float) → (z0 zf : ℤ) → (step : ℕ) → Claims
 onTime s t0 tf z0 zf step =
     record {
-      sample = λ (n : ℕ) (t : Float). (s .samples ≡ true) × (n ≤ stepsFor (spanOf z0 zf) step) × IsWhole t (whenFor z0 zf step n);
+      sample = λ (n : ℕ) (t : Float). (wantsSamples s ≡ true) × (n ≤ stepsFor (spanOf z0 zf) step) × IsWhole t (whenFor z0 zf step n);
       finish = λ (e n : ℕ) (t : Float) (steps startups : ℕ). OnTime s t0 tf z0 zf step e n t steps startups;
       excess = λ (e n : ℕ). ⊥;
     }
 
 -- a start within the bounds is accepted, and every path of its tree ends on time
 pub record EndsOnTime (s : Settings) (t0 tf : Float) (z0 zf hz : ℤ) (r0 v0 : Triple) : Type 0 where
-  pub accepted : tooNear (planOf s t0 tf) ≡ false
+  pub accepted : isTooNear (planOf s t0 tf) ≡ false
   pub always : Always (onTime s t0 tf z0 zf (natAbs hz)) 0 0 (integrate (planOf s t0 tf) r0 v0)

@@ -3,3 +3,4 @@ pub mod Clockwork
 pub mod Counting
 pub mod Runs
 pub mod Starred
+pub mod Year

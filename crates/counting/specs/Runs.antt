@@ -3,15 +3,19 @@
 use mathlib.Core.Path.{_≡_}
 use Prim.Native.Nat.{ℕ, _+_, _*_, _≤_, _<_}
 use mathlib.Core.Bool.{cond}
+use mathlib.Core.Logic.{_⊎_, _≢_}
 use mathlib.Core.List.{List, [], _∷_}
 use lib.IntN.{ℤ, natAbs}
+use lib.Dec.{eqb}
 use lib.ListN.{length}
 use lib.Ieee.{Float}
 use Rattle.triple.specs.declared.Triple.{Triple}
 use Rattle.triple.specs.declared.Sample.{Sample}
+use Rattle.triple.specs.Sampled.{sampleWidth}
 use Rattle.refusals.specs.Numbers.{numberOf}
 use Rattle.refusals.specs.declared.Refusal.the-variants.{NoQuestion, NotThatQuestion}
 use Rattle.run.specs.declared.Settings.{Settings}
+use Rattle.run.specs.Limits.{wantsSamples}
 use Rattle.run.specs.Samples.{putAll}
 use Rattle.gauss_jackson.specs.Answers.{started}
 use Rattle.rules.specs.Walk.{Said, question, finished, refused, told, Call, Result}
@@ -33,31 +37,55 @@ Over [] (r ∷ rs) = ⊥
 Over (c ∷ cs) [] = ⊥
 Over (c ∷ cs) (r ∷ rs) = (r .said ≡ refused (numberOf NoQuestion)) × (r .out ≡ c .out) × Over cs rs
 
--- what is told after e accepted answers, with n samples stored before the call and m after it: a question, and then fewer than `most` answers
--- are accepted; or the finished state as claimed, with evals the count of accepted answers; or 8. Nothing else.
-unfoldable pub Tells : Claims → (most e n m : ℕ) → Said → (further same over : Type 0) → Type 0
-Tells c most e n m (question i q) further same over = (e + 1 < most) × further
-Tells c most e n m (finished t y evals steps startups) further same over = (evals ≡ e + 1) × c .finish (e + 1) m t steps startups × over
-Tells c most e n m (refused i) further same over = (i ≡ numberOf NotThatQuestion) × (m ≡ n) × same
+-- what is told to a call with this number where question i is open, after e accepted answers, with n samples stored before the call and m after it:
+-- to the open number a question, and then fewer than `most` answers are accepted; or the finished state as claimed, with evals the count of
+-- accepted answers; to another number 8. Nothing else.
+unfoldable pub Tells : Claims → (most i number e n m : ℕ) → Said → (further : ℕ → Type 0) → (same over : Type 0) → Type 0
+Tells c most i number e n m (question j q) further same over = (number ≡ i) × (e + 1 < most) × further j
+Tells c most i number e n m (finished t y evals steps startups) further same over = (number ≡ i) × (evals ≡ e + 1) × c .finish (e + 1) m t steps startups × over
+Tells c most i number e n m (refused x) further same over = (x ≡ numberOf NotThatQuestion) × (number ≢ i) × (m ≡ n) × same
 
--- calls and their results, after e accepted answers and n samples
-unfoldable pub Going : Claims → (most e n : ℕ) → List Call → List Result → Type 0
-Going c most e n [] [] = Unit {0}
-Going c most e n [] (r ∷ rs) = ⊥
-Going c most e n (k ∷ ks) [] = ⊥
-Going c most e n (k ∷ ks) (r ∷ rs) =
+-- calls and their results, where question i is open after e accepted answers and n samples
+unfoldable pub Going : Claims → (most i e n : ℕ) → List Call → List Result → Type 0
+Going c most i e n [] [] = Unit {0}
+Going c most i e n [] (r ∷ rs) = ⊥
+Going c most i e n (k ∷ ks) [] = ⊥
+Going c most i e n (k ∷ ks) (r ∷ rs) =
     (m : ℕ) × Adds (c .sample) n m (k .out) (r .out)
-    × Tells c most e n m (r .said) (Going c most (e + 1) m ks rs) (Going c most e n ks rs) (Over ks rs)
+    × Tells c most i (k .number) e n m (r .said) (λ (j : ℕ). Going c most j (e + 1) m ks rs) (Going c most i e n ks rs) (Over ks rs)
+
+-- "every question is answered": how many calls bring the number of the question that is open, refused calls in between passed over
+abbrev pub openAfter : ℕ → Said → ℕ
+openAfter i (question j q) = j
+openAfter i (finished t y evals steps startups) = i
+openAfter i (refused x) = i
+
+unfoldable pub answersIn : ℕ → List Call → List Result → ℕ
+answersIn i [] rs = 0
+answersIn i (c ∷ cs) [] = 0
+answersIn i (c ∷ cs) (r ∷ rs) = cond (eqb i (c .number)) 1 0 + answersIn (openAfter i (r .said)) cs rs
+
+-- "the run ends": one of the calls is told the finished state
+abbrev pub IsFinished : Said → Type 0
+IsFinished (question i q) = ⊥
+IsFinished (finished t y evals steps startups) = Unit {0}
+IsFinished (refused i) = ⊥
+
+unfoldable pub Finishes : List Result → Type 0
+Finishes [] = ⊥
+Finishes (r ∷ rs) = IsFinished (r .said) ⊎ Finishes rs
 
 -- every buffer has room for n samples
 unfoldable pub Roomy : ℕ → List Call → Type 0
 Roomy n [] = Unit {0}
-Roomy n (c ∷ cs) = (10 * n ≤ length (c .out)) × Roomy n cs
+Roomy n (c ∷ cs) = (sampleWidth * n ≤ length (c .out)) × Roomy n cs
 
 -- K + 1 samples, if they are wanted
 unfoldable pub roomFor : Settings → (span step : ℕ) → ℕ
-roomFor s span step = cond (s .samples) (stepsFor span step + 1) 0
+roomFor s span step = cond (wantsSamples s) (stepsFor span step + 1) 0
 
 pub record FinishesOnTime (s : Settings) (t0 tf : Float) (z0 zf hz : ℤ) (r0 v0 : Triple) (cs : List Call) : Type 0 where
   pub first : told (started s t0 tf r0 v0 .outcome) ≡ question 0 (record { t = t0; r = r0; v = v0 })
-  pub then : Going (onTime s t0 tf z0 zf (natAbs hz)) (mostBefore s (spanOf z0 zf) (natAbs hz)) 0 0 cs (played (started s t0 tf r0 v0 .run) cs)
+  pub then : Going (onTime s t0 tf z0 zf (natAbs hz)) (mostBefore s (spanOf z0 zf) (natAbs hz)) 0 0 0 cs (played (started s t0 tf r0 v0 .run) cs)
+  -- whoever answers every question comes to the end, within the upper bound
+  pub ends : mostBefore s (spanOf z0 zf) (natAbs hz) ≤ answersIn 0 cs (played (started s t0 tf r0 v0 .run) cs) → Finishes (played (started s t0 tf r0 v0 .run) cs)

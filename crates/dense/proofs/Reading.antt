@@ -5,13 +5,13 @@ use mathlib.Core.List.{List}
 use lib.ListN.{length}
 use lib.Ieee.{Float}
 use borrow.Author.Tests.{lt-ltb, le-ltb}
-use Rattle.dense.specs.Table.{count, ten, noSample, sampleOf}
+use Rattle.dense.specs.Table.{countOf, ten, noSample, sampleOf}
 
 module _ (l : List Float) (n : ℕ) where
   pub sample-here : n < length l / 10 → sampleOf l n ≡ ten l (10 * n)
-  unfolding sampleOf count
+  unfolding sampleOf countOf
   sample-here h = rw (lt-ltb n (length l / 10) h)
 
   pub no-sample : length l / 10 ≤ n → sampleOf l n ≡ noSample
-  unfolding sampleOf count
+  unfolding sampleOf countOf
   no-sample h = rw (le-ltb n (length l / 10) h)

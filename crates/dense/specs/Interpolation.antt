@@ -7,14 +7,15 @@ use mathlib.Core.List.{List, [], _∷_}
 use lib.Dec.{ltb, eqb}
 use lib.ListN.{length, set}
 use lib.Ieee.{Float, lt}
+use Rattle.triple.specs.Sampled.{sampleWidth}
 use Rattle.refusals.specs.declared.Refusal.the-variants.{NoDenseOutput, InterpOutOfBounds, Shape}
 use Rattle.refusals.specs.Numbers.{numberOf}
 use Rattle.quintic.specs.declared.Between.{Between}
-use Rattle.quintic.specs.Quintic.{quinticAt}
+use Rattle.quintic.specs.Quintic.{quinticHermite}
 use Rattle.dense.specs.declared.Told.{Told}
 use Rattle.dense.specs.declared.Told.the-variants.{Written, Refused}
 use Rattle.dense.specs.declared.interval.Ends.{Ends}
-use Rattle.dense.specs.Table.{count, sampleOf}
+use Rattle.dense.specs.Table.{countOf, sampleOf}
 use Rattle.dense.specs.Intervals.{endsOf, intervalOf, walkedTo}
 
 -- how many numbers a time takes
@@ -28,30 +29,30 @@ numberTold (Refused e) = numberOf e
 
 -- ---- what is told
 -- 9
-unfoldable pub misshapen : List Float → List Float → List Float → Bool
-misshapen times samples out = not (eqb (length samples % 10) 0) || ltb (length out) (width * length times)
+unfoldable pub isMisshapen : List Float → List Float → List Float → Bool
+isMisshapen times samples out = not (eqb (length samples % sampleWidth) 0) || ltb (length out) (width * length times)
 
 -- 4
-unfoldable pub outside : Ends → Float → Bool
-outside e t = lt t (e .lower) || lt (e .upper) t
+unfoldable pub isOutside : Ends → Float → Bool
+isOutside e t = lt t (e .lower) || lt (e .upper) t
 
 unfoldable pub anyOutside : Ends → List Float → Bool
 anyOutside e [] = false
-anyOutside e (t ∷ ts) = outside e t || anyOutside e ts
+anyOutside e (t ∷ ts) = isOutside e t || anyOutside e ts
 
 -- 9, 3, 4
 unfoldable pub judged : List Float → List Float → List Float → Told
 judged times samples out =
-    cond (misshapen times samples out)
+    cond (isMisshapen times samples out)
     (Refused Shape)
-    (cond (ltb (count samples) 2)
+    (cond (ltb (countOf samples) 2)
     (Refused NoDenseOutput)
     (cond (anyOutside (endsOf samples) times) (Refused InterpOutOfBounds) Written))
 
 -- ---- what is written
 -- on interval k, by its quintic
 unfoldable pub valueAt : List Float → ℕ → Float → Between
-valueAt l k t = quinticAt (sampleOf l k) (sampleOf l (k + 1)) t
+valueAt l k t = quinticHermite (sampleOf l k) (sampleOf l (k + 1)) t
 
 -- the numbers from place p on
 abbrev putFrom : ℕ → Between → List Float → List Float
@@ -61,13 +62,13 @@ putFrom p b out =
     (p + 3) (b .v .x)) (p + 4) (b .v .y)) (p + 5) (b .v .z)
 
 -- time j takes `width` numbers, if they have room
-unfoldable pub put : ℕ → Between → List Float → List Float
-put j b out = cond (ltb j (length out / width)) (putFrom (width * j) b out) out
+unfoldable pub written : ℕ → Between → List Float → List Float
+written j b out = cond (ltb j (length out / width)) (putFrom (width * j) b out) out
 
 -- the batch from time j on, with the walk at interval k: each time in turn, on from where the one before it stood
-unfoldable pub putEach : List Float → ℕ → ℕ → List Float → List Float → List Float
-putEach l j k [] out = out
-putEach l j k (t ∷ ts) out = putEach l (j + 1) (walkedTo l t k) ts (put j (valueAt l (walkedTo l t k) t) out)
+unfoldable pub writtenAll : List Float → ℕ → ℕ → List Float → List Float → List Float
+writtenAll l j k [] out = out
+writtenAll l j k (t ∷ ts) out = writtenAll l (j + 1) (walkedTo l t k) ts (written j (valueAt l (walkedTo l t k) t) out)
 
 -- ---- the output when the call returns: `new`, or untouched by a refusal
 unfoldable pub unless : Told → List Float → List Float → List Float
@@ -76,7 +77,7 @@ unless (Refused e) new old = old
 
 unfoldable pub interpolated : Float → List Float → List Float → List Float
 interpolated t samples out =
-    unless (judged (t ∷ []) samples out) (put 0 (valueAt samples (intervalOf samples t) t) out) out
+    unless (judged (t ∷ []) samples out) (written 0 (valueAt samples (intervalOf samples t) t) out) out
 
 unfoldable pub batched : List Float → List Float → List Float → List Float
-batched times samples out = unless (judged times samples out) (putEach samples 0 0 times out) out
+batched times samples out = unless (judged times samples out) (writtenAll samples 0 0 times out) out

@@ -8,17 +8,17 @@ use mathlib.Core.List.{List}
 use lib.Dec.{ltb}
 use lib.Ieee.{Float, lt, le}
 use Rattle.dense.specs.declared.interval.Ends.{Ends}
-use Rattle.dense.specs.Table.{count, timeOf}
+use Rattle.dense.specs.Table.{countOf, timeOf}
 
 unfoldable pub lastTime : List Float → Float
-lastTime l = timeOf l (count l - 1)
+lastTime l = timeOf l (countOf l - 1)
 
-unfoldable pub forward : List Float → Bool
-forward l = lt (timeOf l 0) (lastTime l)
+unfoldable pub isForward : List Float → Bool
+isForward l = lt (timeOf l 0) (lastTime l)
 
 unfoldable pub endsOf : List Float → Ends
 endsOf l =
-    cond (forward l)
+    cond (isForward l)
     (record { lower = timeOf l 0; upper = lastTime l })
     (record { lower = lastTime l; upper = timeOf l 0 })
 
@@ -37,18 +37,18 @@ unfoldable pub heldTo : ℕ → ℕ → ℕ
 heldTo last k = cond (ltb last k) last k
 
 unfoldable pub intervalOf : List Float → Float → ℕ
-intervalOf l t = heldTo (count l - 2) (firstPast (forward l) l t (count l) 0 - 1)
+intervalOf l t = heldTo (countOf l - 2) (firstPast (isForward l) l t (countOf l) 0 - 1)
 
 -- ---- a batch
 -- strictly short of t
-unfoldable pub short : Bool → Float → Float → Bool
-short f time t = cond f (lt time t) (lt t time)
+unfoldable pub isShort : Bool → Float → Float → Bool
+isShort f time t = cond f (lt time t) (lt t time)
 
 -- on from interval k, where `left` intervals are left to walk on to
 unfoldable pub walkOn : Bool → List Float → Float → ℕ → ℕ → ℕ
 walkOn f l t zero k = k
-walkOn f l t (suc left) k = cond (short f (timeOf l (k + 1)) t) (walkOn f l t left (k + 1)) k
+walkOn f l t (suc left) k = cond (isShort f (timeOf l (k + 1)) t) (walkOn f l t left (k + 1)) k
 
 -- the interval of the next time, where the walk stands at interval k
 unfoldable pub walkedTo : List Float → Float → ℕ → ℕ
-walkedTo l t k = walkOn (forward l) l t (count l - 2 - k) k
+walkedTo l t k = walkOn (isForward l) l t (countOf l - 2 - k) k

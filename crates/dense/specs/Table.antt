@@ -7,10 +7,11 @@ use lib.ListN.{length, getD}
 use lib.Ieee.{Float, nan}
 use Rattle.triple.specs.declared.Triple.{Triple}
 use Rattle.triple.specs.declared.Sample.{Sample}
+use Rattle.triple.specs.Sampled.{sampleWidth}
 
 -- how many samples a table has
-unfoldable pub count : List Float → ℕ
-count l = length l / 10
+unfoldable pub countOf : List Float → ℕ
+countOf l = length l / sampleWidth
 
 -- the numbers at three places
 abbrev three : List Float → ℕ → ℕ → ℕ → Triple
@@ -34,7 +35,7 @@ noSample = record { t = nan; r = nans; v = nans; a = nans }
 
 -- sample n; past the last one all is NaN
 unfoldable pub sampleOf : List Float → ℕ → Sample
-sampleOf l n = cond (ltb n (count l)) (ten l (10 * n)) noSample
+sampleOf l n = cond (ltb n (countOf l)) (ten l (sampleWidth * n)) noSample
 
 unfoldable pub timeOf : List Float → ℕ → Float
 timeOf l n = sampleOf l n .t

@@ -1,9 +1,10 @@
 // Which interval a time falls into. The two interpolations have rules of their own (01, "Between samples").
 use crate::table;
 ghost use mathlib.Core.Path.{_≡_};
+ghost use mathlib.Core.Bool.{true, false};
 ghost use Prim.Native.Nat.{_-_};
-ghost use Rattle.dense.specs.Table.{count};
-ghost use Rattle.dense.specs.Intervals.{forward, lastTime, endsOf, reached, short, firstPast, intervalOf, walkedTo};
+ghost use Rattle.dense.specs.Table.{countOf};
+ghost use Rattle.dense.specs.Intervals.{isForward, lastTime, endsOf, isShort, firstPast, intervalOf, walkedTo};
 
 // The earliest and the latest time that a table can tell of.
 pub struct Ends {
@@ -18,7 +19,7 @@ fn last_time(samples: &[f64]) -> f64
 }
 
 fn is_forward(samples: &[f64]) -> bool
-    ensures { λ b. ⌜ b ≡ forward (now (samples .entry)) ⌝ }
+    ensures { λ b. ⌜ b ≡ isForward (now (samples .entry)) ⌝ }
 {
     last_time(samples) > table::time_of(samples, 0)
 }
@@ -42,22 +43,13 @@ pub fn ends_of(samples: &[f64]) -> Ends
 
 // The number of the last interval.
 fn last_interval(samples: &[f64]) -> usize
-    ensures { λ n. ⌜ n ≡ count (now (samples .entry)) - 2 ⌝ }
+    ensures { λ n. ⌜ n ≡ countOf (now (samples .entry)) - 2 ⌝ }
 {
     table::less(table::count_of(samples), 2)
 }
 
-fn is_reached(forward: bool, time: f64, t: f64) -> bool
-    ensures { λ b. ⌜ b ≡ reached forward time t ⌝ }
-{
-    if forward {
-        return time <= t;
-    }
-    time >= t
-}
-
 fn is_short(forward: bool, time: f64, t: f64) -> bool
-    ensures { λ b. ⌜ b ≡ short forward time t ⌝ }
+    ensures { λ b. ⌜ b ≡ isShort forward time t ⌝ }
 {
     if forward {
         return time < t;
@@ -65,19 +57,44 @@ fn is_short(forward: bool, time: f64, t: f64) -> bool
     time > t
 }
 
-// The first sample whose time fails the test, or the count where none does. One after the other, since a table may stand in any order.
-fn first_past(forward: bool, samples: &[f64], t: f64) -> usize
-    ensures { λ n. ⌜ n ≡ firstPast forward (now (samples .entry)) t (count (now (samples .entry))) 0 ⌝ }
+// The first sample that is later than t, or the count where none is.
+fn first_later(samples: &[f64], t: f64) -> usize
+    ensures { λ n. ⌜ n ≡ firstPast true (now (samples .entry)) t (countOf (now (samples .entry))) 0 ⌝ }
 {
     let count = table::count_of(samples);
     let mut n = 0usize;
     while n < count {
-        if !is_reached(forward, table::time_of(samples, n), t) {
+        if !(table::time_of(samples, n) <= t) {
             return n;
         }
         n += 1;
     }
     n
+}
+
+// The first sample that is earlier than t, or the count where none is.
+fn first_earlier(samples: &[f64], t: f64) -> usize
+    ensures { λ n. ⌜ n ≡ firstPast false (now (samples .entry)) t (countOf (now (samples .entry))) 0 ⌝ }
+{
+    let count = table::count_of(samples);
+    let mut n = 0usize;
+    while n < count {
+        if !(table::time_of(samples, n) >= t) {
+            return n;
+        }
+        n += 1;
+    }
+    n
+}
+
+// The first sample whose time fails the test, or the count where none does. One after the other, since a table may stand in any order.
+fn first_past(forward: bool, samples: &[f64], t: f64) -> usize
+    ensures { λ n. ⌜ n ≡ firstPast forward (now (samples .entry)) t (countOf (now (samples .entry))) 0 ⌝ }
+{
+    if forward {
+        return first_later(samples, t);
+    }
+    first_earlier(samples, t)
 }
 
 // The interval of a single time.

@@ -3,13 +3,15 @@ use triple::Sample;
 use triple::Triple;
 ghost use mathlib.Core.Path.{_≡_};
 ghost use Prim.Native.Nat.{_+_, _-_};
-ghost use Rattle.dense.specs.Table.{count, timeOf, noSample, sampleOf};
+ghost use Rattle.dense.specs.Table.{countOf, timeOf, noSample, sampleOf};
+
+pub const SAMPLE_WIDTH: usize = 10;
 
 // How many whole samples there are.
 pub fn count_of(samples: &[f64]) -> usize
-    ensures { λ n. ⌜ n ≡ count (now (samples .entry)) ⌝ }
+    ensures { λ n. ⌜ n ≡ countOf (now (samples .entry)) ⌝ }
 {
-    samples.len() / 10
+    samples.len() / SAMPLE_WIDTH
 }
 
 // n less m, and 0 where n has not so much.
@@ -26,8 +28,8 @@ pub fn less(n: usize, m: usize) -> usize
 pub fn time_of(samples: &[f64], n: usize) -> f64
     ensures { λ t. ⌜ t ≡ timeOf (now (samples .entry)) n ⌝ }
 {
-    if n < samples.len() / 10 {
-        return samples[10 * n];
+    if n < samples.len() / SAMPLE_WIDTH {
+        return samples[SAMPLE_WIDTH * n];
     }
     0.0 / 0.0
 }
@@ -52,8 +54,8 @@ fn none() -> Sample
 pub fn sample_of(samples: &[f64], n: usize) -> Sample
     ensures { λ s. ⌜ s ≡ sampleOf (now (samples .entry)) n ⌝ }
 {
-    if n < samples.len() / 10 {
-        let p = 10 * n;
+    if n < samples.len() / SAMPLE_WIDTH {
+        let p = SAMPLE_WIDTH * n;
         let r = Triple {
             x: samples[p + 1],
             y: samples[p + 2],
@@ -83,7 +85,7 @@ pub fn sample_of(samples: &[f64], n: usize) -> Sample
 pub fn sample_after(samples: &[f64], n: usize) -> Sample
     ensures { λ s. ⌜ s ≡ sampleOf (now (samples .entry)) (n + 1) ⌝ }
 {
-    if n < samples.len() / 10 {
+    if n < samples.len() / SAMPLE_WIDTH {
         return sample_of(samples, n + 1);
     }
     none()

@@ -7,13 +7,13 @@ use crate::table;
 use refusals::Refusal;
 ghost use mathlib.Core.Path.{_≡_};
 ghost use Rattle.dense.specs.Intervals.{endsOf};
-ghost use Rattle.dense.specs.Interpolation.{misshapen, outside, anyOutside, judged};
+ghost use Rattle.dense.specs.Interpolation.{isMisshapen, isOutside, anyOutside, judged};
 
 // 9. The room is divided, since a product could overflow.
 fn is_misshapen(times: &[f64], samples: &[f64], out: &[f64]) -> bool
-    ensures { λ b. ⌜ b ≡ misshapen (now (times .entry)) (now (samples .entry)) (now (out .entry)) ⌝ }
+    ensures { λ b. ⌜ b ≡ isMisshapen (now (times .entry)) (now (samples .entry)) (now (out .entry)) ⌝ }
 {
-    if samples.len() % 10 != 0 {
+    if samples.len() % table::SAMPLE_WIDTH != 0 {
         return true;
     }
     out.len() / WIDTH < times.len()
@@ -21,7 +21,7 @@ fn is_misshapen(times: &[f64], samples: &[f64], out: &[f64]) -> bool
 
 // 4, of one time. A NaN is neither below nor above.
 fn is_outside(ends: Ends, t: f64) -> bool
-    ensures { λ b. ⌜ b ≡ outside ends t ⌝ }
+    ensures { λ b. ⌜ b ≡ isOutside ends t ⌝ }
 {
     if t < ends.lower {
         return true;

@@ -5,7 +5,7 @@ use crate::table;
 use quintic::Between;
 ghost use mathlib.Core.Path.{_≡_};
 ghost use Rattle.dense.specs.Intervals.{walkedTo};
-ghost use Rattle.dense.specs.Interpolation.{valueAt, put, putEach};
+ghost use Rattle.dense.specs.Interpolation.{valueAt, written, writtenAll};
 
 // The quintic of interval k at t.
 pub fn value(samples: &[f64], k: usize, t: f64) -> Between
@@ -20,7 +20,7 @@ pub fn value(samples: &[f64], k: usize, t: f64) -> Between
 
 // The numbers of time j, all of them or, where they have no room, none.
 pub fn store(j: usize, b: Between, out: &mut [f64])
-    ensures { λ _. ⌜ now (out .exit) ≡ put j b (now (out .entry)) ⌝ }
+    ensures { λ _. ⌜ now (out .exit) ≡ written j b (now (out .entry)) ⌝ }
 {
     if j < out.len() / WIDTH {
         let p = WIDTH * j;
@@ -36,7 +36,7 @@ pub fn store(j: usize, b: Between, out: &mut [f64])
 // Time j of a batch that stands at interval k; gives the interval that it walked on to.
 fn write_next(j: usize, t: f64, k: usize, samples: &[f64], out: &mut [f64]) -> usize
     ensures { λ r. ⌜ r ≡ walkedTo (now (samples .entry)) t k ⌝ }
-    ensures { λ _. ⌜ now (out .exit) ≡ put j (valueAt (now (samples .entry)) (walkedTo (now (samples .entry)) t k) t) (now (out .entry)) ⌝ }
+    ensures { λ _. ⌜ now (out .exit) ≡ written j (valueAt (now (samples .entry)) (walkedTo (now (samples .entry)) t k) t) (now (out .entry)) ⌝ }
 {
     let at = interval::walk_on(samples, t, k);
     store(j, value(samples, at, t), out);
@@ -45,7 +45,7 @@ fn write_next(j: usize, t: f64, k: usize, samples: &[f64], out: &mut [f64]) -> u
 
 // Every time of a batch, in one walk from interval 0.
 pub fn write_all(times: &[f64], samples: &[f64], out: &mut [f64])
-    ensures { λ _. ⌜ now (out .exit) ≡ putEach (now (samples .entry)) 0 0 (now (times .entry)) (now (out .entry)) ⌝ }
+    ensures { λ _. ⌜ now (out .exit) ≡ writtenAll (now (samples .entry)) 0 0 (now (times .entry)) (now (out .entry)) ⌝ }
 {
     let mut k = 0usize;
     let mut j = 0usize;

@@ -1,2 +1,2 @@
 pub mod Sampling
-pub mod Parts
+pub mod Verdicts

@@ -2,22 +2,21 @@
 // question, or the finished state, or a refusal. The run is plain data, goes in by value and comes back by value.
 // Every function that a caller sees is total: document 01 names the answer to anything at all.
 use refusals::Refusal;
+use run::Plan;
 pub use run::Run;
 pub use run::Settings;
 use run::formulas;
 use run::limits;
 use run::sound;
 use run::waiting;
-use run::waiting::Waiting;
 use triple::Triple;
 ghost use mathlib.Core.Path.{_≡_};
 ghost use Rattle.run.specs.Plan.{defaultSettings};
-ghost use Rattle.gauss_jackson.specs.Answers.{answered, started, openQuestion};
+ghost use Rattle.gauss_jackson.specs.Answers.{verdictOn, started, answered, openQuestion};
 
-mod counted;
-mod samples;
-mod steps;
-mod turns;
+mod advance;
+mod outcomes;
+mod taking;
 
 // A force's question: answer it with the acceleration there, under its number.
 #[repr(C)]
@@ -45,6 +44,12 @@ pub enum Outcome {
     Refused(Refusal),
 }
 
+// What is said of a start.
+pub enum Verdict {
+    Fine,
+    Refuse(Refusal),
+}
+
 // What a call gives: the run to go on with, and the outcome.
 pub struct Answered {
     pub run: Run,
@@ -62,22 +67,33 @@ pub fn default_settings() -> Settings
         max_corrector_iters: 2,
         max_startup_iters: 12,
         max_steps: 1_000_000,
-        samples: false,
+        samples: 0,
     }
 }
 
-// A start: a run with its first question, or refusal 5 or 1, with a run that is ended.
+// Whether a start with this plan is refused: 5, then 1.
+fn verdict_on(plan: Plan) -> Verdict
+    ensures { λ v. ⌜ v ≡ verdictOn plan ⌝ }
+{
+    if !limits::are_within_limits(plan.settings) {
+        return Verdict::Refuse(Refusal::Setting);
+    }
+    if formulas::is_too_near(plan) {
+        return Verdict::Refuse(Refusal::StepNotFinite);
+    }
+    Verdict::Fine
+}
+
+// A start: a run with its first question, or a refusal with a run that is ended.
 pub fn start(settings: Settings, t0: f64, tf: f64, r0: Triple, v0: Triple) -> Answered
     ensures { λ x. ⌜ x ≡ started settings t0 tf r0 v0 ⌝ }
 {
-    if !limits::are_within_limits(settings) {
-        return turns::end(Outcome::Refused(Refusal::Setting));
-    }
     let plan = formulas::plan_of(settings, t0, tf);
-    if formulas::is_too_near(plan) {
-        return turns::end(Outcome::Refused(Refusal::StepNotFinite));
+    let verdict = verdict_on(plan);
+    match verdict {
+        Verdict::Fine => outcomes::begin(plan, r0, v0),
+        Verdict::Refuse(refusal) => outcomes::end(Outcome::Refused(refusal)),
     }
-    turns::begin(plan, r0, v0)
 }
 
 // The answer to question `number`: the acceleration `a`. Samples that fall due go into `out`, sample n at 10n to 10n+9.
@@ -88,29 +104,15 @@ pub fn answer(run: Run, number: u16, a: Triple, out: &mut [f64]) -> Answered
         let outcome = Outcome::Refused(Refusal::NoQuestion);
         return Answered { run, outcome };
     }
-    if run.mark.count.number != number {
+    let mark = run.mark;
+    if mark.count.number != number {
         let outcome = Outcome::Refused(Refusal::NotThatQuestion);
         return Answered { run, outcome };
     }
-    let w = waiting::waits_at(run.mark);
-    let count = turns::next_count(run.mark.count);
-    let Waiting::Step(n) = w else {
-        let body = run.body;
-        let done = turns::take(w, count, body, a, out);
-        return done;
-    };
-    let judged = steps::judge(n, run.body.plan, run.body.track.sums, run.body.trial, a);
-    if !judged.made {
-        return steps::try_again(n, count, run, judged.state);
-    }
-    let track = counted::track_on(run.body.plan, run.body.track, judged.state, a);
-    if steps::goes_further(run.body.plan, track.t, track.steps) {
-        let body = run.body;
-        return steps::step_on(count, body, track, a);
-    }
+    let w = waiting::waits_at(mark);
+    let count = outcomes::next_count(mark.count);
     let body = run.body;
-    let done = turns::take(w, count, body, a, out);
-    done
+    taking::take(w, count, body, a, out)
 }
 
 // The open question of a run, told again; or 7 where none is open.
@@ -123,5 +125,5 @@ pub fn open_question(run: Run) -> Outcome
     let mark = run.mark;
     let body = run.body;
     let w = waiting::waits_at(mark);
-    turns::question_of(w, mark.count, body)
+    outcomes::question_of(w, mark.count, body)
 }

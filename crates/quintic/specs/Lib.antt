@@ -1,2 +1,1 @@
 pub mod Quintic
-pub mod Starred

@@ -64,8 +64,8 @@ velocityOn h s from c =
     (times (c .c4) (div binary64 (whole 4 · s3) h)))
     (times (c .c5) (div binary64 (whole 5 · s4) h))
 
-unfoldable pub quinticAt : Sample → Sample → Float → Between
-quinticAt from to t =
+unfoldable pub quinticHermite : Sample → Sample → Float → Between
+quinticHermite from to t =
     let h = sub binary64 (to .t) (from .t) in
     let s = div binary64 (sub binary64 t (from .t)) h in
     record { r = positionOn h s from (curveOf h from to); v = velocityOn h s from (curveOf h from to) }

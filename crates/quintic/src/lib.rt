@@ -3,7 +3,7 @@
 use triple::Sample;
 use triple::Triple;
 ghost use mathlib.Core.Path.{_≡_};
-ghost use Rattle.quintic.specs.Quintic.{delta1, delta2, delta3, curveOf, positionOn, velocityOn, quinticAt};
+ghost use Rattle.quintic.specs.Quintic.{delta1, delta2, delta3, curveOf, positionOn, velocityOn, quinticHermite};
 
 // What is told of a time between two samples.
 pub struct Between {
@@ -20,7 +20,7 @@ pub struct Curve {
 
 // Position and velocity at t on the curve between two samples.
 pub fn quintic_hermite(from: Sample, to: Sample, t: f64) -> Between
-    ensures { λ b. ⌜ b ≡ quinticAt from to t ⌝ }
+    ensures { λ b. ⌜ b ≡ quinticHermite from to t ⌝ }
 {
     let h = to.t - from.t;
     let s = (t - from.t) / h;

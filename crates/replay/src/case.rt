@@ -100,7 +100,7 @@ pub fn read(line: &[u8], at: usize) -> Case {
         max_corrector_iters: max_corrector.value,
         max_startup_iters: max_startup.value,
         max_steps: max_steps.value,
-        samples: samples.value == 1,
+        samples: (samples.value % 2) as u8,
     };
     let position = r0.value;
     let velocity = v0.value;

@@ -21,31 +21,31 @@ unfoldable pub sixth : Float
 sixth = div binary64 (fin false 1 (pos 0)) (fin false 3 (pos 1))
 
 -- k2, by l1, and k3, by l2
-unfoldable pub midway : Point → Float → Triple → Triple
-midway p h l = plus (p .v) (times l (half h))
+unfoldable pub halfOn : Point → Float → Triple → Triple
+halfOn p h l = plus (p .v) (times l (half h))
 
 -- k4, by l3
-unfoldable pub across : Point → Float → Triple → Triple
-across p h l = plus (p .v) (times l h)
+unfoldable pub stepOn : Point → Float → Triple → Triple
+stepOn p h l = plus (p .v) (times l h)
 
 -- (((a + b·2) + c·2) + d)·(h·sixth)
-unfoldable pub average : Float → Triple → Triple → Triple → Triple → Triple
-average h a b c d = times (plus (plus (plus a (times b two)) (times c two)) d) (mul binary64 h sixth)
+unfoldable pub averaged : Float → Triple → Triple → Triple → Triple → Triple
+averaged h a b c d = times (plus (plus (plus a (times b two)) (times c two)) d) (mul binary64 h sixth)
 
 -- ---- the questions after the first, which is p itself
-unfoldable pub second : Point → Float → Triple → Point
-second p h l1 = record { t = add binary64 (p .t) (half h); r = plus (p .r) (times (p .v) (half h)); v = midway p h l1 }
+unfoldable pub secondQuestion : Point → Float → Triple → Point
+secondQuestion p h l1 = record { t = add binary64 (p .t) (half h); r = plus (p .r) (times (p .v) (half h)); v = halfOn p h l1 }
 
-unfoldable pub third : Point → Float → Triple → Triple → Point
-third p h l1 l2 = record { t = add binary64 (p .t) (half h); r = plus (p .r) (times (midway p h l1) (half h)); v = midway p h l2 }
+unfoldable pub thirdQuestion : Point → Float → Triple → Triple → Point
+thirdQuestion p h l1 l2 = record { t = add binary64 (p .t) (half h); r = plus (p .r) (times (halfOn p h l1) (half h)); v = halfOn p h l2 }
 
-unfoldable pub fourth : Point → Float → Triple → Triple → Point
-fourth p h l2 l3 = record { t = add binary64 (p .t) h; r = plus (p .r) (times (midway p h l2) h); v = across p h l3 }
+unfoldable pub fourthQuestion : Point → Float → Triple → Triple → Point
+fourthQuestion p h l2 l3 = record { t = add binary64 (p .t) h; r = plus (p .r) (times (halfOn p h l2) h); v = stepOn p h l3 }
 
 -- ---- the end
-unfoldable pub ending : Point → Float → Triple → Triple → Triple → Triple → State
-ending p h l1 l2 l3 l4 =
+unfoldable pub endOfStep : Point → Float → Triple → Triple → Triple → Triple → State
+endOfStep p h l1 l2 l3 l4 =
     record {
-      r = plus (p .r) (average h (p .v) (midway p h l1) (midway p h l2) (across p h l3));
-      v = plus (p .v) (average h l1 l2 l3 l4);
+      r = plus (p .r) (averaged h (p .v) (halfOn p h l1) (halfOn p h l2) (stepOn p h l3));
+      v = plus (p .v) (averaged h l1 l2 l3 l4);
     }

@@ -10,18 +10,19 @@ use Rattle.triple.specs.declared.Triple.{Triple}
 use Rattle.triple.specs.declared.State.{State}
 use Rattle.triple.specs.declared.Point.{Point}
 use Rattle.triple.specs.declared.Sample.{Sample}
-use Rattle.triple.specs.Nine.{at, nineZeros, slide}
-use Rattle.rk4.specs.Rk4.{half, second, third, fourth, ending}
+use Rattle.triple.specs.Nine.{at, nineZeros, slid}
+use Rattle.rk4.specs.Rk4.{half, secondQuestion, thirdQuestion, fourthQuestion, endOfStep}
 use Rattle.sums.specs.declared.Fixed.{Fixed}
 use Rattle.sums.specs.Sums.{predictedState, fixedOf, correctedState}
 use Rattle.startup.specs.declared.Places.{Places}
 use Rattle.startup.specs.declared.Widest.{Widest}
 use Rattle.startup.specs.Points.{pointAt, firstPlaces, placed}
-use Rattle.startup.specs.Passes.{passPlaces, widened, calm, settled}
+use Rattle.startup.specs.Passes.{passPlaces, widened, calmAt, isSettled}
 use Rattle.run.specs.declared.Plan.{Plan}
 use Rattle.run.specs.declared.Track.{Track}
-use Rattle.run.specs.Formulas.{remains, goesOn, isShort, rests, startTrack, trackOn, stepPoint, tailPoint, finalPoint}
-use Rattle.run.specs.Samples.{startSamples, stepSample, finalSample}
+use Rattle.run.specs.Limits.{wantsSamples}
+use Rattle.run.specs.Formulas.{leftAt, isDue, isTail, isAtRest, startTrack, trackOn, stepPoint, tailFrom, finalPoint}
+use Rattle.run.specs.Samples.{startSamples, stepSample, lastSample}
 use Rattle.rules.specs.Rules.{Course, asks, stores, ends, exceeds, rk4, forward, backward, others, survey, renew, passes, sampled, tail, correct, step, march, fly, integrate}
 use Rattle.rules.specs.Asked.{clock, Listed, at-start, at-point, half-ahead, ahead, half-back, back, on-step, on-tail, half-tail, past-tail, at-end, due, AsListed, AsksAsListed}
 
@@ -57,17 +58,17 @@ module _ (p : Plan) where
 
   sampled-fair : (n m i : ℕ) (ss : List Sample) (c : Course) → Fair p n c → length ss + n ≤ m → Fair p m (sampled p i ss c)
   unfolding sampled
-  sampled-fair n m i ss c f h = cond-fair m (p .settings .samples) (stores i ss c) c (stores-fair n m i ss c f h) (wider n m c (omega arith) f)
+  sampled-fair n m i ss c f h = cond-fair m (wantsSamples (p .settings)) (stores i ss c) c (stores-fair n m i ss c f h) (wider n m c (omega arith) f)
 
   rk4-fair : (n : ℕ) (q : Point) (h : Float) (k : State → Course) → Listed p (q .t) → Listed p (add binary64 (q .t) (half h)) → Listed p (add binary64 (q .t) h)
       → ((e : State) → Fair p 5 (k e)) → Fair p n (rk4 q h k)
-  unfolding rk4 second third fourth
+  unfolding rk4 secondQuestion thirdQuestion fourthQuestion
   rk4-fair n q h k a b c f =
       asks-fair n q _ a (λ (l1 : Triple).
-      asks-fair 5 (second q h l1) _ b (λ (l2 : Triple).
-      asks-fair 5 (third q h l1 l2) _ b (λ (l3 : Triple).
-      asks-fair 5 (fourth q h l2 l3) _ c (λ (l4 : Triple).
-      f (ending q h l1 l2 l3 l4)))))
+      asks-fair 5 (secondQuestion q h l1) _ b (λ (l2 : Triple).
+      asks-fair 5 (thirdQuestion q h l1 l2) _ b (λ (l3 : Triple).
+      asks-fair 5 (fourthQuestion q h l2 l3) _ c (λ (l4 : Triple).
+      f (endOfStep q h l1 l2 l3 l4)))))
 
   -- ---- the startup
   forward-fair : (left i : ℕ) (x : Places) (k : Places → Course) → 4 ≤ i → i + left ≤ 8 → ((x : Places) → Fair p 5 (k x)) → Fair p 5 (forward left i p x k)
@@ -111,19 +112,19 @@ module _ (p : Plan) where
   unfolding passes
   passes-fair zero n x a k f = f n x a
   passes-fair (suc left) n x a k f =
-      renew-fair others (passPlaces (p .h) x a) a (calm a) _ others-points (λ (a' : List Triple) (w : Widest).
-      cond-fair 5 (settled (p .settings .«startup_tol») w) _ _ (f (n + 1) (passPlaces (p .h) x a) a') (passes-fair left (n + 1) (passPlaces (p .h) x a) a' k f))
+      renew-fair others (passPlaces (p .h) x a) a (calmAt a) _ others-points (λ (a' : List Triple) (w : Widest).
+      cond-fair 5 (isSettled (p .settings .«startup_tol») w) _ _ (f (n + 1) (passPlaces (p .h) x a) a') (passes-fair left (n + 1) (passPlaces (p .h) x a) a' k f))
 
   -- ---- the steps, with the clock at n
   tail-fair : (s n : ℕ) (k : Track) → k .t ≡ clock p n → Fair p 0 (tail p s k)
-  unfolding tail tailPoint remains finalPoint
+  unfolding tail tailFrom leftAt finalPoint
   tail-fair s n k e =
-      rk4-fair 0 (tailPoint k) (remains p (k .t)) _ (on-tail n e)
+      rk4-fair 0 (tailFrom k) (leftAt p (k .t)) _ (on-tail n e)
       (half-tail n (ap (λ (t : Float). add binary64 t (half (sub binary64 (p .tf) t))) e))
       (past-tail n (ap (λ (t : Float). add binary64 t (sub binary64 (p .tf) t)) e))
-      (λ (y : State). cond-fair 5 (p .settings .samples) _ _
+      (λ (y : State). cond-fair 5 (wantsSamples (p .settings)) _ _
       (asks-fair 5 (finalPoint p y) _ (at-end refl) (λ (b : Triple).
-      stores-fair 0 5 (k .steps + 1) (finalSample p y b ∷ []) (ends (p .tf) y (k .steps + 1) s) (ends-fair 0 (p .tf) y (k .steps + 1) s) (omega arith)))
+      stores-fair 0 5 (k .steps + 1) (lastSample p y b ∷ []) (ends (p .tf) y (k .steps + 1) s) (ends-fair 0 (p .tf) y (k .steps + 1) s) (omega arith)))
       (ends-fair 5 (p .tf) y (k .steps + 1) s))
 
   correct-fair : (left n : ℕ) (k : Track) (f : Fixed) (y : State) (b : Triple) (commit : State → Triple → Course) → k .t ≡ clock p n
@@ -131,7 +132,7 @@ module _ (p : Plan) where
   unfolding correct stepPoint
   correct-fair zero n k f y b commit e g = g y b
   correct-fair (suc left) n k f y b commit e g =
-      cond-fair 5 (rests (p .settings .«corrector_tol») y (correctedState (p .h) (k .sums) f b)) _ _
+      cond-fair 5 (isAtRest (p .settings .«corrector_tol») y (correctedState (p .h) (k .sums) f b)) _ _
       (g (correctedState (p .h) (k .sums) f b) b)
       (asks-fair 5 (stepPoint p k (correctedState (p .h) (k .sums) f b)) _ (on-step n (ap (λ (t : Float). add binary64 t (p .h)) e)) (λ (c : Triple).
       correct-fair left n k f (correctedState (p .h) (k .sums) f b) c commit e g))
@@ -145,13 +146,13 @@ module _ (p : Plan) where
 
   march-fair : (left s n : ℕ) (k : Track) (a : List Triple) → k .t ≡ clock p n → Fair p 0 (march left p s k a)
   unfolding march trackOn clock
-  march-fair zero s n k a e = cond-fair 0 (goesOn p (k .t)) _ _ (exceeds-fair 0) (ends-fair 0 (k .t) (k .state) (k .steps) s)
+  march-fair zero s n k a e = cond-fair 0 (isDue p (k .t)) _ _ (exceeds-fair 0) (ends-fair 0 (k .t) (k .state) (k .steps) s)
   march-fair (suc left) s n k a e =
-      cond-fair 0 (goesOn p (k .t)) _ _
-      (cond-fair 0 (isShort p (k .t)) _ _ (tail-fair s n k e)
+      cond-fair 0 (isDue p (k .t)) _ _
+      (cond-fair 0 (isTail p (k .t)) _ _ (tail-fair s n k e)
       (step-fair n k a _ e (λ (y : State) (b : Triple).
-      sampled-fair 0 5 (k .steps + 1) (stepSample (trackOn p k y b) (slide a b) ∷ []) (march left p s (trackOn p k y b) (slide a b))
-      (march-fair left s (suc n) (trackOn p k y b) (slide a b) (ap (λ (t : Float). add binary64 t (p .h)) e)) (omega arith))))
+      sampled-fair 0 5 (k .steps + 1) (stepSample (trackOn p k y b) (slid a b) ∷ []) (march left p s (trackOn p k y b) (slid a b))
+      (march-fair left s (suc n) (trackOn p k y b) (slid a b) (ap (λ (t : Float). add binary64 t (p .h)) e)) (omega arith))))
       (ends-fair 0 (k .t) (k .state) (k .steps) s)
 
   fly-fair : (s : ℕ) (x : Places) (a : List Triple) → Fair p 5 (fly p s x a)

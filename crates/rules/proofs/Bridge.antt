@@ -11,44 +11,44 @@ use lib.Ieee.{Float}
 use borrow.Author.Tests.{ltb-true, ltb-false}
 use Rattle.triple.specs.declared.Sample.{Sample}
 use Rattle.refusals.specs.declared.Refusal.the-variants.{MaxStepsExceeded, SampleRoom}
-use Rattle.startup.specs.Passes.{settled}
+use Rattle.startup.specs.Passes.{isSettled}
 use Rattle.run.specs.declared.Plan.{Plan}
 use Rattle.run.specs.declared.Count.{Count}
 use Rattle.run.specs.declared.Body.{Body}
 use Rattle.run.specs.declared.waiting.Stage.the-variants.{First}
 use Rattle.run.specs.declared.waiting.Waiting.{Waiting}
 use Rattle.run.specs.declared.waiting.Waiting.the-variants.{Pass, Step, Tail}
-use Rattle.run.specs.Plan.{withinLimits}
-use Rattle.run.specs.Formulas.{goesOn, isShort, startTrack}
-use Rattle.run.specs.Waiting.{stageFrom, waitingAt, waitingOf}
+use Rattle.run.specs.Limits.{numbering, areWithinLimits, wantsSamples}
+use Rattle.run.specs.Formulas.{isDue, isTail, startTrack}
+use Rattle.run.specs.Waiting.{stageFrom, waitingAt, waitsAt}
 use Rattle.run.specs.Moves.{freshBody, passBegun, passMade, launched, predicted}
-use Rattle.run.specs.Samples.{fits, putAll, startSamples, stepSample}
-use Rattle.run.specs.Counting.{countsOf, soundOf}
+use Rattle.run.specs.Samples.{hasRoom, putAll, startSamples, stepSample}
+use Rattle.run.specs.Sound.{hasCounts, isSound}
 use Rattle.run.proofs.Decoding.{read}
 use Rattle.run.proofs.Counts.{Counts, SteppingBody, sound-at}
 use Rattle.run.proofs.Moving.{Swept, pass-first, startup-done, step-first, tail-first}
 use Rattle.gauss_jackson.specs.declared.Answered.{Answered}
 use Rattle.gauss_jackson.specs.declared.Outcome.{Outcome}
 use Rattle.gauss_jackson.specs.declared.Outcome.the-variants.{Refused}
-use Rattle.gauss_jackson.specs.Answers.{quiet, counted, noPlan, endedRun, ending, questionOf, asking, solution, onward, sampling, startupEnded, stepEnded, passesOn, passEnded}
+use Rattle.gauss_jackson.specs.Answers.{quiet, nextCount, noPlan, endedRun, ending, questionOf, asking, solutionOf, onward, sampling, startupEnded, stepEnded, passesOn, passEnded}
 use Rattle.rules.specs.Rules.{Course, stores, ends, exceeds, others, sampled, fly}
 use Rattle.rules.specs.Walk.{refused, told, over, settle}
 use Rattle.rules.proofs.Rest.{sweeping, passed, renewing, loop, due, later, restAt, rest, opened, lineOf, seen}
 use Rattle.rules.proofs.Loops.{renewing-is, passes-on, march-on, tail-is, step-is}
 
-pub numbered-on : (c : Count) → c .number ≡ c .evals % 65536 → counted c .number ≡ counted c .evals % 65536
-unfolding counted
+pub numbered-on : (c : Count) → c .number ≡ c .evals % numbering → nextCount c .number ≡ nextCount c .evals % numbering
+unfolding nextCount
 numbered-on c h = omega arith
 
 -- ---- a question is asked: the line stands open at it
-pub asked-is : (w : Waiting) (c : Count) (b : Body) (out : List Float) → withinLimits (b .plan .settings) ≡ true → c .number ≡ c .evals % 65536 → Counts w (c .evals) b
+pub asked-is : (w : Waiting) (c : Count) (b : Body) (out : List Float) → areWithinLimits (b .plan .settings) ≡ true → c .number ≡ c .evals % numbering → Counts w (c .evals) b
     → seen (quiet (asking w c b) out) ≡ settle (restAt w b) (c .number) (c .evals) out
 unfolding seen asking questionOf told settle lineOf rest restAt opened
 asked-is w c b out l n h = simp (sound-at w c b l n h, read w c)
 
 -- ---- the run is ended: nothing is open
-ended-run : soundOf endedRun ≡ false
-unfolding soundOf countsOf waitingOf waitingAt stageFrom endedRun noPlan freshBody withinLimits
+ended-run : isSound endedRun ≡ false
+unfolding isSound hasCounts waitsAt waitingAt stageFrom endedRun noPlan freshBody areWithinLimits
 ended-run = refl
 
 pub ended-is : (o : Outcome) (out : List Float) → seen (quiet (ending o) out) ≡ record { said = told o; out = out; line = over }
@@ -60,7 +60,7 @@ pub sampling-is : (i : ℕ) (ss : List Sample) (b : Body) (out : List Float) (x 
     → ((out' : List Float) → seen (quiet x out') ≡ settle t n e out')
     → seen (sampling i ss b out x) ≡ settle (sampled (b .plan) i ss t) n e out
 unfolding sampling sampled settle told
-sampling-is i ss b out x t n e f = wanted (b .plan .settings .samples)
+sampling-is i ss b out x t n e f = wanted (wantsSamples (b .plan .settings))
   where
     room : (d : Bool)
         → seen (cond d (record { got = x; out = putAll i ss out }) (quiet (ending (Refused SampleRoom)) out))
@@ -69,29 +69,29 @@ sampling-is i ss b out x t n e f = wanted (b .plan .settings .samples)
     room false = ended-is (Refused SampleRoom) out
 
     wanted : (d : Bool)
-        → seen (cond d (cond (fits i (length ss) out) (record { got = x; out = putAll i ss out }) (quiet (ending (Refused SampleRoom)) out)) (quiet x out))
+        → seen (cond d (cond (hasRoom i (length ss) out) (record { got = x; out = putAll i ss out }) (quiet (ending (Refused SampleRoom)) out)) (quiet x out))
         ≡ settle (cond d (stores i ss t) t) n e out
-    wanted true = room (fits i (length ss) out)
+    wanted true = room (hasRoom i (length ss) out)
     wanted false = f out
 
-pub wanted-is : (p : Plan) (i : ℕ) (ss : List Sample) (t : Course) → p .settings .samples ≡ true → sampled p i ss t ≡ stores i ss t
+pub wanted-is : (p : Plan) (i : ℕ) (ss : List Sample) (t : Course) → wantsSamples (p .settings) ≡ true → sampled p i ss t ≡ stores i ss t
 unfolding sampled
 wanted-is p i ss t e = ap (λ (d : Bool). cond d (stores i ss t) t) e
 
 -- ---- the head of the steps
-module _ (c : Count) (b : Body) (l : withinLimits (b .plan .settings) ≡ true) (n : c .number ≡ c .evals % 65536) where
+module _ (c : Count) (b : Body) (l : areWithinLimits (b .plan .settings) ≡ true) (n : c .number ≡ c .evals % numbering) where
   onward-is : SteppingBody 0 (c .evals) b → (out : List Float) → seen (quiet (onward c b) out) ≡ settle (loop b) (c .number) (c .evals) out
-  unfolding onward settle solution told predicted
+  unfolding onward settle solutionOf told predicted
   onward-is s out =
       rw (march-on (b .plan) (b .«startup_iters») (b .track) (b .a), tail-is b, step-is b)
-      (go (goesOn (b .plan) (b .track .t)) (ltb (b .track .steps) (b .plan .settings .«max_steps»)) (isShort (b .plan) (b .track .t)) refl)
+      (go (isDue (b .plan) (b .track .t)) (ltb (b .track .steps) (b .plan .settings .«max_steps»)) (isTail (b .plan) (b .track .t)) refl)
     where
       go : (g d t : Bool) → ltb (b .track .steps) (b .plan .settings .«max_steps») ≡ d
           → seen
           (quiet
           (cond g
           (cond d (cond t (asking (Tail First) c b) (asking (Step 0) c (predicted b))) (ending (Refused MaxStepsExceeded)))
-          (ending (solution (b .track .t) (b .track .state) c (b .track .steps) b)))
+          (ending (solutionOf (b .track .t) (b .track .state) c (b .track .steps) b)))
           out)
           ≡ settle
           (cond g (cond d (cond t (restAt (Tail First) b) (restAt (Step 0) (predicted b))) exceeds) (ends (b .track .t) (b .track .state) (b .track .steps) (b .«startup_iters»)))
@@ -100,17 +100,17 @@ module _ (c : Count) (b : Body) (l : withinLimits (b .plan .settings) ≡ true) 
       go true true false q = asked-is (Step 0) c (predicted b) out l n (step-first (c .evals) b (ltb-true _ _ q) s)
       go true false true q = ended-is (Refused MaxStepsExceeded) out
       go true false false q = ended-is (Refused MaxStepsExceeded) out
-      go false true true q = ended-is (solution (b .track .t) (b .track .state) c (b .track .steps) b) out
-      go false true false q = ended-is (solution (b .track .t) (b .track .state) c (b .track .steps) b) out
-      go false false true q = ended-is (solution (b .track .t) (b .track .state) c (b .track .steps) b) out
-      go false false false q = ended-is (solution (b .track .t) (b .track .state) c (b .track .steps) b) out
+      go false true true q = ended-is (solutionOf (b .track .t) (b .track .state) c (b .track .steps) b) out
+      go false true false q = ended-is (solutionOf (b .track .t) (b .track .state) c (b .track .steps) b) out
+      go false false true q = ended-is (solutionOf (b .track .t) (b .track .state) c (b .track .steps) b) out
+      go false false false q = ended-is (solutionOf (b .track .t) (b .track .state) c (b .track .steps) b) out
 
   pub step-ended-is : (out : List Float) → SteppingBody 0 (c .evals) b → seen (stepEnded c b out) ≡ settle (due b) (c .number) (c .evals) out
   unfolding stepEnded due
   step-ended-is out s = sampling-is (b .track .steps) (stepSample (b .track) (b .a) ∷ []) b out (onward c b) (loop b) (c .number) (c .evals) (onward-is s)
 
 -- ---- the end of the startup, the head of its passes, and the end of one
-module _ (c : Count) (b : Body) (l : withinLimits (b .plan .settings) ≡ true) (n : c .number ≡ c .evals % 65536) (s : Swept (c .evals) b) where
+module _ (c : Count) (b : Body) (l : areWithinLimits (b .plan .settings) ≡ true) (n : c .number ≡ c .evals % numbering) (s : Swept (c .evals) b) where
   startup-ended-is : (out : List Float) → (b .«startup_iters» ≡ 0 → b .plan .settings .«max_startup_iters» ≡ 0)
       → seen (startupEnded c b out) ≡ settle (fly (b .plan) (b .«startup_iters») (b .places) (b .a)) (c .number) (c .evals) out
   unfolding startupEnded fly launched startTrack
@@ -128,10 +128,10 @@ module _ (c : Count) (b : Body) (l : withinLimits (b .plan .settings) ≡ true) 
       go true q = rw (renewing-is 0 (passBegun b)) (asked-is (Pass 0) c (passBegun b) out l n (pass-first (c .evals) b s (ltb-true _ _ q)))
       go false q = let h : b .plan .settings .«max_startup_iters» ≤ b .«startup_iters» = ltb-false _ _ q in startup-ended-is out (λ z. omega arith)
 
-pub pass-ended-is : (c : Count) (b : Body) (out : List Float) → withinLimits (b .plan .settings) ≡ true → c .number ≡ c .evals % 65536 → Swept (c .evals) (passMade b)
+pub pass-ended-is : (c : Count) (b : Body) (out : List Float) → areWithinLimits (b .plan .settings) ≡ true → c .number ≡ c .evals % numbering → Swept (c .evals) (passMade b)
     → seen (passEnded c b out) ≡ settle (passed b (b .a) (b .widest)) (c .number) (c .evals) out
 unfolding passEnded passMade
-pass-ended-is c b out l n s = go (settled (b .plan .settings .«startup_tol») (b .widest))
+pass-ended-is c b out l n s = go (isSettled (b .plan .settings .«startup_tol») (b .widest))
   where
     go : (d : Bool)
         → seen (cond d (startupEnded c (passMade b) out) (passesOn c (passMade b) out))

@@ -1,5 +1,5 @@
 -- One call on any run: it is told, and leaves, what the rules give at the place where the line stands.
-use mathlib.Core.Path.{_≡_, refl, sym, ap, _∙_}
+use mathlib.Core.Path.{_≡_, refl, sym, ap, subst, _∙_}
 use Prim.Native.Nat.{ℕ, _+_, _-_, _%_, _≤_, _<_}
 use native.Mathlib.Omega.{arith}
 use mathlib.Core.Bool.{Bool, true, false, cond}
@@ -14,29 +14,31 @@ use Rattle.sums.specs.Sums.{correctedState}
 use Rattle.run.specs.declared.Count.{Count}
 use Rattle.run.specs.declared.Body.{Body}
 use Rattle.run.specs.declared.Run.{Run}
+use Rattle.run.specs.declared.waiting.Stage.{Stage}
 use Rattle.run.specs.declared.waiting.Stage.the-variants.{First, Second, Third, Fourth}
 use Rattle.run.specs.declared.waiting.Waiting.{Waiting}
 use Rattle.run.specs.declared.waiting.Waiting.the-variants.{Epoch, Forward, Backward, Survey, Pass, Step, Tail, TailSample, Ended, Unknown}
-use Rattle.run.specs.Plan.{withinLimits}
-use Rattle.run.specs.Formulas.{rests, stepPoint, finalPoint}
-use Rattle.run.specs.Waiting.{waitingOf, nextPoint}
-use Rattle.run.specs.Questions.{endPoint, lastPoint, question}
-use Rattle.run.specs.Moves.{surveyed, kept, movedOn, movedBack, renewed, tried, committed, tailEnd}
-use Rattle.run.specs.Samples.{finalSample}
-use Rattle.run.specs.Counting.{soundOf}
+use Rattle.run.specs.Limits.{numbering, areWithinLimits, wantsSamples}
+use Rattle.run.specs.Formulas.{isAtRest, stepPoint, finalPoint}
+use Rattle.run.specs.Waiting.{isLast, stageAfter, waitsAt, nextPoint}
+use Rattle.run.specs.Questions.{endPoint, lastPoint, questionAt}
+use Rattle.run.specs.Moves.{surveyed, kept, movedOn, movedBack, renewed, tried, committed, endOfTail}
+use Rattle.run.specs.Samples.{lastSample}
+use Rattle.run.specs.Sound.{isSound}
 use Rattle.run.proofs.Counts.{Counts, Facts, to-facts}
-use Rattle.run.proofs.Moving.{epoch-on, forward-second, forward-third, forward-fourth, forward-on, forward-last, backward-second, backward-third, backward-fourth, backward-on, backward-last, survey-on, survey-last, pass-on, pass-last, step-again, step-made, tail-second, tail-third, tail-fourth, tail-last}
-use Rattle.gauss_jackson.specs.Answers.{quiet, counted, ending, asking, solution, stepEnded, passesOn, passEnded, forwardTaken, backwardTaken, surveyTaken, passTaken, stepTaken, tailTaken, lastTaken, answeredAt, refusing, answered}
+use Rattle.run.proofs.Moving.{epoch-on, forward-kept, forward-on, forward-last, backward-kept, backward-on, backward-last, survey-on, survey-last, pass-on, pass-last, step-again, step-made, tail-kept, tail-last}
+use Rattle.gauss_jackson.specs.declared.Answered.{Answered}
+use Rattle.gauss_jackson.specs.Answers.{quiet, nextCount, ending, asking, solutionOf, stepEnded, passesOn, passEnded, rk4Taken, forwardEnded, backwardEnded, tailEnded, surveyTaken, passTaken, stepTaken, lastTaken, answeredAt, refusing, answered}
 use Rattle.rules.specs.Rules.{Course, asks, ends, backward, survey, renew, correct}
-use Rattle.rules.specs.Walk.{refused, told, Call, settle, turn}
+use Rattle.rules.specs.Walk.{refused, told, Call, settle, called}
 use Rattle.rules.proofs.Rest.{turning, ahead, behind, seeing, renewing, due, landing, last, tailed, later, after3, after2, after1, stage, next, restAt, rest, opened, lineOf, seen}
 use Rattle.rules.proofs.Loops.{seeing-is, renewing-is, forward-done, later-next, later-none, correct-on, ahead-is, behind-is}
 use Rattle.rules.proofs.Bridge.{numbered-on, asked-is, ended-is, sampling-is, wanted-is, step-ended-is, passes-on-is, pass-ended-is}
 
 -- ---- the right answer at a waiting point: c counts the answers up to this one
-module _ (i e : ℕ) (c : Count) (b : Body) (x : Triple) (l : withinLimits (b .plan .settings) ≡ true) (n : c .number ≡ c .evals % 65536) (u : c .evals ≡ e + 1) where
-  forward-end-is : (out : List Float) → Counts (Forward i Fourth) e b → seen (quiet (forwardTaken i Fourth c b x) out) ≡ settle (ahead (i + 1) (movedOn i b x)) (c .number) (c .evals) out
-  unfolding forwardTaken movedOn
+module _ (i e : ℕ) (c : Count) (b : Body) (x : Triple) (l : areWithinLimits (b .plan .settings) ≡ true) (n : c .number ≡ c .evals % numbering) (u : c .evals ≡ e + 1) where
+  forward-end-is : (out : List Float) → Counts (Forward i Fourth) e b → seen (quiet (forwardEnded i c b x) out) ≡ settle (ahead (i + 1) (movedOn i b x)) (c .number) (c .evals) out
+  unfolding forwardEnded movedOn
   forward-end-is out k = go (ltb i 7) refl
     where
       go : (d : Bool) → ltb i 7 ≡ d
@@ -49,8 +51,8 @@ module _ (i e : ℕ) (c : Count) (b : Body) (x : Triple) (l : withinLimits (b .p
           rw (forward-done (i + 1) (b .plan) (movedOn i b x .places) (turning (movedOn i b x)) (omega arith), behind-is 4 (movedOn i b x) (omega arith))
           (asked-is (Backward 4 First) c (movedOn i b x) out l n (rw u (forward-last i e b x h k)))
 
-  backward-end-is : (out : List Float) → Counts (Backward i Fourth) e b → seen (quiet (backwardTaken i Fourth c b x) out) ≡ settle (behind (i - 1) (movedBack i b x)) (c .number) (c .evals) out
-  unfolding backwardTaken movedBack backward later
+  backward-end-is : (out : List Float) → Counts (Backward i Fourth) e b → seen (quiet (backwardEnded i c b x) out) ≡ settle (behind (i - 1) (movedBack i b x)) (c .number) (c .evals) out
+  unfolding backwardEnded movedBack backward later
   backward-end-is out k = go (ltb 1 i) refl
     where
       go : (d : Bool) → ltb 1 i ≡ d
@@ -92,10 +94,10 @@ module _ (i e : ℕ) (c : Count) (b : Body) (x : Triple) (l : withinLimits (b .p
 
   -- after i corrector passes
   step-taken-is : (out : List Float) → Counts (Step i) e b → seen (stepTaken i c b x out) ≡ settle (next (Step i) b x) (c .number) (c .evals) out
-  unfolding stepTaken next restAt question endPoint tried due committed
+  unfolding stepTaken next restAt questionAt endPoint tried due committed
   step-taken-is out k =
       rw (correct-on (b .plan) i (b .track) (b .trial .fixed) (b .trial .state) x (landing b))
-      (go (ltb i (b .plan .settings .«max_corrector_iters»)) (rests (b .plan .settings .«corrector_tol») (b .trial .state) y) refl)
+      (go (ltb i (b .plan .settings .«max_corrector_iters»)) (isAtRest (b .plan .settings .«corrector_tol») (b .trial .state) y) refl)
     where
       y : State
       y = correctedState (b .plan .h) (b .track .sums) (b .trial .fixed) x
@@ -124,72 +126,88 @@ module _ (i e : ℕ) (c : Count) (b : Body) (x : Triple) (l : withinLimits (b .p
       go false true q = made (b .trial .state)
       go false false q = made (b .trial .state)
 
-  tail-end-is : (out : List Float) → Counts (Tail Fourth) e b → seen (quiet (tailTaken Fourth c b x) out) ≡ settle (tailed b (tailEnd b x)) (c .number) (c .evals) out
-  unfolding tailTaken tailed settle solution told restAt question lastPoint next tried last
-  tail-end-is out k = go (b .plan .settings .samples) refl
+  tail-end-is : (out : List Float) → Counts (Tail Fourth) e b → seen (quiet (tailEnded c b x) out) ≡ settle (tailed b (endOfTail b x)) (c .number) (c .evals) out
+  unfolding tailEnded tailed settle solutionOf told restAt questionAt lastPoint next tried last
+  tail-end-is out k = go (wantsSamples (b .plan .settings)) refl
     where
-      sample-asked : b .plan .settings .samples ≡ true
-          → seen (quiet (asking TailSample c (tried b (tailEnd b x))) out) ≡ settle (asks (finalPoint (b .plan) (tailEnd b x)) (last b (tailEnd b x))) (c .number) (c .evals) out
-      sample-asked q = asked-is TailSample c (tried b (tailEnd b x)) out l n (rw u (tail-last e b (tailEnd b x) q k))
+      sample-asked : wantsSamples (b .plan .settings) ≡ true
+          → seen (quiet (asking TailSample c (tried b (endOfTail b x))) out) ≡ settle (asks (finalPoint (b .plan) (endOfTail b x)) (last b (endOfTail b x))) (c .number) (c .evals) out
+      sample-asked q = asked-is TailSample c (tried b (endOfTail b x)) out l n (rw u (tail-last e b (endOfTail b x) q k))
 
-      go : (d : Bool) → b .plan .settings .samples ≡ d
-          → seen (quiet (cond d (asking TailSample c (tried b (tailEnd b x))) (ending (solution (b .plan .tf) (tailEnd b x) c (b .track .steps + 1) b))) out)
+      go : (d : Bool) → wantsSamples (b .plan .settings) ≡ d
+          → seen (quiet (cond d (asking TailSample c (tried b (endOfTail b x))) (ending (solutionOf (b .plan .tf) (endOfTail b x) c (b .track .steps + 1) b))) out)
           ≡ settle
-          (cond d (asks (finalPoint (b .plan) (tailEnd b x)) (last b (tailEnd b x))) (ends (b .plan .tf) (tailEnd b x) (b .track .steps + 1) (b .«startup_iters»)))
+          (cond d (asks (finalPoint (b .plan) (endOfTail b x)) (last b (endOfTail b x))) (ends (b .plan .tf) (endOfTail b x) (b .track .steps + 1) (b .«startup_iters»)))
           (c .number) (c .evals) out
       go true q = sample-asked q
-      go false q = ended-is (solution (b .plan .tf) (tailEnd b x) c (b .track .steps + 1) b) out
+      go false q = ended-is (solutionOf (b .plan .tf) (endOfTail b x) c (b .track .steps + 1) b) out
 
   last-taken-is : (out : List Float) → Counts TailSample e b → seen (lastTaken c b x out) ≡ settle (last b (b .trial .state) x) (c .number) (c .evals) out
-  unfolding lastTaken last settle solution told
+  unfolding lastTaken last settle solutionOf told
   last-taken-is out k =
-      sampling-is (b .track .steps + 1) (finalSample (b .plan) (b .trial .state) x ∷ []) b out
-      (ending (solution (b .plan .tf) (b .trial .state) c (b .track .steps + 1) b))
+      sampling-is (b .track .steps + 1) (lastSample (b .plan) (b .trial .state) x ∷ []) b out
+      (ending (solutionOf (b .plan .tf) (b .trial .state) c (b .track .steps + 1) b))
       (ends (b .plan .tf) (b .trial .state) (b .track .steps + 1) (b .«startup_iters»)) (c .number) (c .evals)
-      (ended-is (solution (b .plan .tf) (b .trial .state) c (b .track .steps + 1) b))
+      (ended-is (solutionOf (b .plan .tf) (b .trial .state) c (b .track .steps + 1) b))
       ∙ ap (λ (t : Course). settle t (c .number) (c .evals) out) (wanted-is (b .plan) (b .track .steps + 1) _ _ (k .0))
 
+-- ---- an RK4 step, whose waiting points are w and whose end leads to k
+-- a question whose rest is known by another name
+asked-by : (v : Waiting) (c : Count) (b : Body) (out : List Float) {z : Body → Triple → Course} → areWithinLimits (b .plan .settings) ≡ true → c .number ≡ c .evals % numbering
+    → next v ≡ z → Counts v (c .evals) b → seen (quiet (asking v c b) out) ≡ settle (asks (questionAt v b) (z b)) (c .number) (c .evals) out
+unfolding restAt
+asked-by v c b out l n e h =
+    asked-is v c b out l n h ∙ ap (λ (y : Body → Triple → Course). settle (asks (questionAt v b) (y b)) (c .number) (c .evals) out) e
+
+rk4-is : (w : Stage → Waiting) (k : Body → Triple → Course) (c : Count) (b : Body) (x : Triple) (out : List Float) (end : Answered)
+    → areWithinLimits (b .plan .settings) ≡ true → c .number ≡ c .evals % numbering
+    → ((s : Stage) → next (w s) ≡ stage w k s)
+    → (s : Stage) → (isLast s ≡ false → Counts (w (stageAfter s)) (c .evals) (kept s b x)) → (s ≡ Fourth → seen (quiet end out) ≡ settle (k b x) (c .number) (c .evals) out)
+    → seen (quiet (rk4Taken w s c b x end) out) ≡ settle (stage w k s b x) (c .number) (c .evals) out
+unfolding rk4Taken stage after1 after2 after3 kept
+rk4-is w k c b x out end l n f First g h = asked-by (w Second) c (kept First b x) out l n (f Second) (g refl)
+rk4-is w k c b x out end l n f Second g h = asked-by (w Third) c (kept Second b x) out l n (f Third) (g refl)
+rk4-is w k c b x out end l n f Third g h = asked-by (w Fourth) c (kept Third b x) out l n (f Fourth) (g refl)
+rk4-is w k c b x out end l n f Fourth g h = h refl
+
 -- ---- the one-call lemma, a line for each waiting point
-point-is : (w : Waiting) (c : Count) (b : Body) (x : Triple) (out : List Float) → withinLimits (b .plan .settings) ≡ true → c .number ≡ c .evals % 65536 → Counts w (c .evals) b
-    → seen (answeredAt w (counted c) b x out) ≡ settle (next w b x) (counted c .number) (counted c .evals) out
-unfolding answeredAt next stage after1 after2 after3 restAt forwardTaken backwardTaken tailTaken surveyed kept counted
+point-is : (w : Waiting) (c : Count) (b : Body) (x : Triple) (out : List Float) → areWithinLimits (b .plan .settings) ≡ true → c .number ≡ c .evals % numbering → Counts w (c .evals) b
+    → seen (answeredAt w (nextCount c) b x out) ≡ settle (next w b x) (nextCount c .number) (nextCount c .evals) out
+unfolding answeredAt next restAt surveyed nextCount
 point-is Epoch c b x out l n k =
-    rw (ahead-is 4 (surveyed 4 b x) (omega arith)) (asked-is (Forward 4 First) (counted c) (surveyed 4 b x) out l (numbered-on c n) (epoch-on (c .evals) b x k))
-point-is (Forward i First) c b x out l n k = asked-is (Forward i Second) (counted c) (kept First b x) out l (numbered-on c n) (forward-second i (c .evals) b x k)
-point-is (Forward i Second) c b x out l n k = asked-is (Forward i Third) (counted c) (kept Second b x) out l (numbered-on c n) (forward-third i (c .evals) b x k)
-point-is (Forward i Third) c b x out l n k = asked-is (Forward i Fourth) (counted c) (kept Third b x) out l (numbered-on c n) (forward-fourth i (c .evals) b x k)
-point-is (Forward i Fourth) c b x out l n k = forward-end-is i (c .evals) (counted c) b x l (numbered-on c n) refl out k
-point-is (Backward i First) c b x out l n k = asked-is (Backward i Second) (counted c) (kept First b x) out l (numbered-on c n) (backward-second i (c .evals) b x k)
-point-is (Backward i Second) c b x out l n k = asked-is (Backward i Third) (counted c) (kept Second b x) out l (numbered-on c n) (backward-third i (c .evals) b x k)
-point-is (Backward i Third) c b x out l n k = asked-is (Backward i Fourth) (counted c) (kept Third b x) out l (numbered-on c n) (backward-fourth i (c .evals) b x k)
-point-is (Backward i Fourth) c b x out l n k = backward-end-is i (c .evals) (counted c) b x l (numbered-on c n) refl out k
-point-is (Survey i) c b x out l n k = survey-taken-is i (c .evals) (counted c) b x l (numbered-on c n) refl out k
-point-is (Pass i) c b x out l n k = pass-taken-is i (c .evals) (counted c) b x l (numbered-on c n) refl out k
-point-is (Step i) c b x out l n k = step-taken-is i (c .evals) (counted c) b x l (numbered-on c n) refl out k
-point-is (Tail First) c b x out l n k = asked-is (Tail Second) (counted c) (kept First b x) out l (numbered-on c n) (tail-second (c .evals) b x k)
-point-is (Tail Second) c b x out l n k = asked-is (Tail Third) (counted c) (kept Second b x) out l (numbered-on c n) (tail-third (c .evals) b x k)
-point-is (Tail Third) c b x out l n k = asked-is (Tail Fourth) (counted c) (kept Third b x) out l (numbered-on c n) (tail-fourth (c .evals) b x k)
-point-is (Tail Fourth) c b x out l n k = tail-end-is 0 (c .evals) (counted c) b x l (numbered-on c n) refl out k
-point-is TailSample c b x out l n k = last-taken-is 0 (c .evals) (counted c) b x l (numbered-on c n) refl out k
+    rw (ahead-is 4 (surveyed 4 b x) (omega arith)) (asked-is (Forward 4 First) (nextCount c) (surveyed 4 b x) out l (numbered-on c n) (epoch-on (c .evals) b x k))
+point-is (Forward i s) c b x out l n k =
+    rk4-is (λ (t : Stage). Forward i t) (λ (b : Body) (x : Triple). ahead (i + 1) (movedOn i b x)) (nextCount c) b x out _ l (numbered-on c n) (λ t. refl) s
+    (λ h. forward-kept i (c .evals) b x s h k) (λ e. forward-end-is i (c .evals) (nextCount c) b x l (numbered-on c n) refl out (subst (λ (t : Stage). Counts (Forward i t) (c .evals) b) e k))
+point-is (Backward i s) c b x out l n k =
+    rk4-is (λ (t : Stage). Backward i t) (λ (b : Body) (x : Triple). behind (i - 1) (movedBack i b x)) (nextCount c) b x out _ l (numbered-on c n) (λ t. refl) s
+    (λ h. backward-kept i (c .evals) b x s h k) (λ e. backward-end-is i (c .evals) (nextCount c) b x l (numbered-on c n) refl out (subst (λ (t : Stage). Counts (Backward i t) (c .evals) b) e k))
+point-is (Survey i) c b x out l n k = survey-taken-is i (c .evals) (nextCount c) b x l (numbered-on c n) refl out k
+point-is (Pass i) c b x out l n k = pass-taken-is i (c .evals) (nextCount c) b x l (numbered-on c n) refl out k
+point-is (Step i) c b x out l n k = step-taken-is i (c .evals) (nextCount c) b x l (numbered-on c n) refl out k
+point-is (Tail s) c b x out l n k =
+    rk4-is (λ (t : Stage). Tail t) (λ (b : Body) (x : Triple). tailed b (endOfTail b x)) (nextCount c) b x out _ l (numbered-on c n) (λ t. refl) s
+    (λ h. tail-kept (c .evals) b s x h k) (λ e. tail-end-is 0 (c .evals) (nextCount c) b x l (numbered-on c n) refl out (subst (λ (t : Stage). Counts (Tail t) (c .evals) b) e k))
+point-is TailSample c b x out l n k = last-taken-is 0 (c .evals) (nextCount c) b x l (numbered-on c n) refl out k
 point-is Ended c b x out l n k = absurd k
 point-is Unknown c b x out l n k = absurd k
 
 -- any call, any run
-pub call-is : (run : Run) (k : Call) → seen (answered run (k .number) (k .a) (k .out)) ≡ turn (lineOf run) k
-unfolding answered lineOf rest restAt turn opened seen refusing told counted
-call-is run k = go (soundOf run) refl
+pub call-is : (run : Run) (k : Call) → seen (answered run (k .number) (k .a) (k .out)) ≡ called (lineOf run) k
+unfolding answered lineOf rest restAt called opened seen refusing told nextCount
+call-is run k = go (isSound run) refl
   where
-    right : (d : Bool) → Facts run → soundOf run ≡ true
+    right : (d : Bool) → Facts run → isSound run ≡ true
         → seen
         (cond d
-        (answeredAt (waitingOf (run .mark)) (counted (run .mark .count)) (run .body) (k .a) (k .out))
+        (answeredAt (waitsAt (run .mark)) (nextCount (run .mark .count)) (run .body) (k .a) (k .out))
         (quiet (refusing run NotThatQuestion) (k .out)))
         ≡ cond d
-        (settle (next (waitingOf (run .mark)) (run .body) (k .a)) (counted (run .mark .count) .number) (counted (run .mark .count) .evals) (k .out))
+        (settle (next (waitsAt (run .mark)) (run .body) (k .a)) (nextCount (run .mark .count) .number) (nextCount (run .mark .count) .evals) (k .out))
         (record { said = refused 8; out = k .out; line = opened (run .mark .count .number) (run .mark .count .evals) (rest run) })
-    right true f e = point-is (waitingOf (run .mark)) (run .mark .count) (run .body) (k .a) (k .out) (f .limited) (f .numbered) (f .counted)
+    right true f e = point-is (waitsAt (run .mark)) (run .mark .count) (run .body) (k .a) (k .out) (f .limited) (f .numbered) (f .counted)
     right false f e = simp e
 
-    go : (d : Bool) → soundOf run ≡ d → seen (answered run (k .number) (k .a) (k .out)) ≡ turn (lineOf run) k
+    go : (d : Bool) → isSound run ≡ d → seen (answered run (k .number) (k .a) (k .out)) ≡ called (lineOf run) k
     go true e = rw e (right (eqb (run .mark .count .number) (k .number)) (to-facts run e) e)
     go false e = simp e

@@ -1,8 +1,8 @@
 -- Any line of calls follows the rules.
-use mathlib.Core.Path.{_≡_, refl, ap, _∙_}
+use mathlib.Core.Path.{_≡_, refl, sym, ap, subst, _∙_}
 use Prim.Native.Nat.{ℕ}
 use native.Mathlib.Nat.{sub-zero}
-use mathlib.Core.Bool.{Bool, true, false, cond}
+use mathlib.Core.Bool.{true}
 use mathlib.Core.List.{List, [], _∷_}
 use lib.ListN.{set}
 use lib.Ieee.{Float}
@@ -15,14 +15,17 @@ use Rattle.run.specs.declared.Settings.{Settings}
 use Rattle.run.specs.declared.Plan.{Plan}
 use Rattle.run.specs.declared.Run.{Run}
 use Rattle.run.specs.declared.waiting.Waiting.the-variants.{Epoch}
-use Rattle.run.specs.Plan.{withinLimits, planOf, tooNear}
-use Rattle.run.specs.Questions.{epochPoint, question}
+use Rattle.run.specs.Plan.{planOf}
+use Rattle.run.specs.Limits.{areWithinLimits}
+use Rattle.run.specs.Questions.{epochPoint, questionAt}
 use Rattle.run.specs.Moves.{freshBody, surveyed}
 use Rattle.gauss_jackson.specs.declared.Answered.{Answered}
 use Rattle.gauss_jackson.specs.declared.Outcome.the-variants.{Refused}
-use Rattle.gauss_jackson.specs.Answers.{ending, asking, answered, started}
+use Rattle.gauss_jackson.specs.declared.Verdict.{Verdict}
+use Rattle.gauss_jackson.specs.Answers.{asking, answered, verdictOn, startedBy, started}
+use Rattle.gauss_jackson.proofs.Verdicts.{Case, over-limit, too-near, fine, split}
 use Rattle.rules.specs.Rules.{Course, asks, forward, backward, others, survey, passes, fly, integrate}
-use Rattle.rules.specs.Walk.{refused, told, Call, Result, over, Stop, settle, walk, begin}
+use Rattle.rules.specs.Walk.{told, Call, Result, Stop, settle, walk, beginBy, begin}
 use Rattle.rules.specs.Follows.{heard, played, FollowsTheRules}
 use Rattle.rules.proofs.Rest.{next, restAt, rest, lineOf, seen}
 use Rattle.rules.proofs.Bridge.{asked-is, ended-is}
@@ -38,7 +41,7 @@ follows (k ∷ cs) run =
 
 -- the rest of a started run is the whole integration
 started-is : (p : Plan) (r0 v0 : Triple) → restAt Epoch (freshBody p r0 v0) ≡ integrate p r0 v0
-unfolding restAt question epochPoint next surveyed freshBody integrate firstPlaces nineZeros
+unfolding restAt questionAt epochPoint next surveyed freshBody integrate firstPlaces nineZeros
 started-is p r0 v0 =
     ap (λ (m : ℕ). asks (record { t = p .t0; r = r0; v = v0 }) (λ (b : Triple).
     forward 4 4 p (firstPlaces r0 v0) (λ (x : Places).
@@ -51,26 +54,24 @@ unfoldable pub begun : Answered → Stop
 begun x = record { said = told (x .outcome); out = []; line = lineOf (x .run) }
 
 pub begins : (s : Settings) (t0 tf : Float) (r0 v0 : Triple) → begun (started s t0 tf r0 v0) ≡ begin s t0 tf r0 v0
-unfolding begun started begin freshBody planOf seen told
-begins s t0 tf r0 v0 = go (withinLimits s) (tooNear (planOf s t0 tf)) refl
+unfolding begun started startedBy begin beginBy freshBody planOf seen told
+begins s t0 tf r0 v0 = go (split p)
   where
-    asked : withinLimits s ≡ true → begun (asking Epoch (record { number = 0; evals = 0 }) (freshBody (planOf s t0 tf) r0 v0)) ≡ settle (integrate (planOf s t0 tf) r0 v0) 0 0 []
-    asked e =
-        asked-is Epoch (record { number = 0; evals = 0 }) (freshBody (planOf s t0 tf) r0 v0) [] e refl (refl, record { passes = refl; steps = refl })
-        ∙ ap (λ (t : Course). settle t 0 0 []) (started-is (planOf s t0 tf) r0 v0)
+    p : Plan
+    p = planOf s t0 tf
 
-    go : (d t : Bool) → withinLimits s ≡ d
-        → begun
-        (cond d
-        (cond t (ending (Refused StepNotFinite)) (asking Epoch (record { number = 0; evals = 0 }) (freshBody (planOf s t0 tf) r0 v0)))
-        (ending (Refused Setting)))
-        ≡ cond d
-        (cond t (record { said = refused 1; out = []; line = over }) (settle (integrate (planOf s t0 tf) r0 v0) 0 0 []))
-        (record { said = refused 5; out = []; line = over })
-    go true true e = ended-is (Refused StepNotFinite) []
-    go true false e = asked e
-    go false true e = ended-is (Refused Setting) []
-    go false false e = ended-is (Refused Setting) []
+    by : {v : Verdict} → verdictOn p ≡ v → begun (startedBy v p r0 v0) ≡ beginBy v p r0 v0 → begun (startedBy (verdictOn p) p r0 v0) ≡ beginBy (verdictOn p) p r0 v0
+    by e h = subst (λ (v : Verdict). begun (startedBy v p r0 v0) ≡ beginBy v p r0 v0) (sym e) h
+
+    asked : areWithinLimits s ≡ true → begun (asking Epoch (record { number = 0; evals = 0 }) (freshBody p r0 v0)) ≡ settle (integrate p r0 v0) 0 0 []
+    asked e =
+        asked-is Epoch (record { number = 0; evals = 0 }) (freshBody p r0 v0) [] e refl (refl, record { passes = refl; steps = refl })
+        ∙ ap (λ (t : Course). settle t 0 0 []) (started-is p r0 v0)
+
+    go : Case p → begun (startedBy (verdictOn p) p r0 v0) ≡ beginBy (verdictOn p) p r0 v0
+    go (over-limit l e) = by e (ended-is (Refused Setting) [])
+    go (too-near l n e) = by e (ended-is (Refused StepNotFinite) [])
+    go (fine l n e) = by e (asked l)
 
 -- demand 2
 pub follows-the-rules : (s : Settings) (t0 tf : Float) (r0 v0 : Triple) (cs : List Call) → FollowsTheRules s t0 tf r0 v0 cs

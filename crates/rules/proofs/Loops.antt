@@ -11,22 +11,22 @@ use lib.Ieee.{neg}
 use borrow.Author.Tests.{ltb-true, ltb-false}
 use Rattle.triple.specs.declared.Triple.{Triple}
 use Rattle.triple.specs.declared.State.{State}
-use Rattle.triple.specs.Nine.{at, slide}
+use Rattle.triple.specs.Nine.{at, slid}
 use Rattle.sums.specs.declared.Fixed.{Fixed}
 use Rattle.sums.specs.Sums.{predictedState, fixedOf, correctedState}
 use Rattle.startup.specs.declared.Places.{Places}
 use Rattle.startup.specs.declared.Widest.{Widest}
 use Rattle.startup.specs.Points.{pointAt, placed}
-use Rattle.startup.specs.Passes.{passPlaces, calm, settled}
+use Rattle.startup.specs.Passes.{passPlaces, calmAt, isSettled}
 use Rattle.run.specs.declared.Plan.{Plan}
 use Rattle.run.specs.declared.Track.{Track}
 use Rattle.run.specs.declared.Body.{Body}
 use Rattle.run.specs.declared.waiting.Stage.the-variants.{First}
 use Rattle.run.specs.declared.waiting.Waiting.the-variants.{Forward, Backward, Survey, Pass, Step, Tail}
-use Rattle.run.specs.Formulas.{goesOn, isShort, rests, trackOn, stepPoint}
+use Rattle.run.specs.Formulas.{isDue, isTail, isAtRest, trackOn, stepPoint}
 use Rattle.run.specs.Waiting.{nextPoint}
-use Rattle.run.specs.Questions.{stageQuestion, gridPoint, endPoint, question}
-use Rattle.run.specs.Moves.{slopesWith, kept, stepEnd, movedOn, movedBack, predicted, committed, tailEnd, renewed, surveyed}
+use Rattle.run.specs.Questions.{stageQuestion, gridPoint, endPoint, questionAt}
+use Rattle.run.specs.Moves.{withSlope, kept, endOf, movedOn, movedBack, predicted, committed, endOfTail, renewed, surveyed}
 use Rattle.run.specs.Samples.{stepSample}
 use Rattle.rules.specs.Rules.{Course, asks, ends, exceeds, rk4, forward, backward, others, renew, passes, sampled, tail, correct, step, march, survey}
 use Rattle.rules.proofs.Rest.{sweeping, looking, turning, ahead, behind, seeing, passed, renewing, loop, due, landing, last, tailed, later, after3, after2, after1, stage, next, restAt}
@@ -86,8 +86,8 @@ module _ {A : Type 0} (f : ℕ → A) (limit n : ℕ) where
 pub passes-on : (p : Plan) (n : ℕ) (x : Places) (a : List Triple) (k : ℕ → Places → List Triple → Course)
     → passes (p .settings .«max_startup_iters» - n) n p x a k
     ≡ cond (ltb n (p .settings .«max_startup_iters»))
-    (renew others p (passPlaces (p .h) x a) a (calm a) (λ (a' : List Triple) (w : Widest).
-    cond (settled (p .settings .«startup_tol») w)
+    (renew others p (passPlaces (p .h) x a) a (calmAt a) (λ (a' : List Triple) (w : Widest).
+    cond (isSettled (p .settings .«startup_tol») w)
     (k (n + 1) (passPlaces (p .h) x a) a')
     (passes (p .settings .«max_startup_iters» - (n + 1)) (n + 1) p (passPlaces (p .h) x a) a' k)))
     (k n x a)
@@ -97,7 +97,7 @@ passes-on p n x a k = counted-down (λ (m : ℕ). passes m n p x a k) (p .settin
 pub correct-on : (p : Plan) (n : ℕ) (k : Track) (f : Fixed) (y : State) (b : Triple) (commit : State → Triple → Course)
     → correct (p .settings .«max_corrector_iters» - n) p k f y b commit
     ≡ cond (ltb n (p .settings .«max_corrector_iters»))
-    (cond (rests (p .settings .«corrector_tol») y (correctedState (p .h) (k .sums) f b))
+    (cond (isAtRest (p .settings .«corrector_tol») y (correctedState (p .h) (k .sums) f b))
     (commit (correctedState (p .h) (k .sums) f b) b)
     (asks (stepPoint p k (correctedState (p .h) (k .sums) f b)) (λ (c : Triple).
     correct (p .settings .«max_corrector_iters» - (n + 1)) p k f (correctedState (p .h) (k .sums) f b) c commit)))
@@ -113,47 +113,47 @@ behind-test false false more none done = refl
 
 pub march-on : (p : Plan) (startups : ℕ) (k : Track) (a : List Triple)
     → march (p .settings .«max_steps» - k .steps) p startups k a
-    ≡ cond (goesOn p (k .t))
+    ≡ cond (isDue p (k .t))
     (cond (ltb (k .steps) (p .settings .«max_steps»))
-    (cond (isShort p (k .t))
+    (cond (isTail p (k .t))
     (tail p startups k)
     (step p k a (λ (y : State) (b : Triple).
-    sampled p (k .steps + 1) (stepSample (trackOn p k y b) (slide a b) ∷ []) (march (p .settings .«max_steps» - (k .steps + 1)) p startups (trackOn p k y b) (slide a b)))))
+    sampled p (k .steps + 1) (stepSample (trackOn p k y b) (slid a b) ∷ []) (march (p .settings .«max_steps» - (k .steps + 1)) p startups (trackOn p k y b) (slid a b)))))
     exceeds)
     (ends (k .t) (k .state) (k .steps) startups)
 unfolding march
 march-on p startups k a =
     counted-down (λ (m : ℕ). march m p startups k a) (p .settings .«max_steps») (k .steps) _ (λ h. refl) _ refl
-    ∙ behind-test (goesOn p (k .t)) (ltb (k .steps) (p .settings .«max_steps»)) _ _ _
+    ∙ behind-test (isDue p (k .t)) (ltb (k .steps) (p .settings .«max_steps»)) _ _ _
 
 -- ---- the heads of the loops, at a body: the first question, and what follows
 pub ahead-is : (i : ℕ) (b : Body) → i < 8 → ahead i b ≡ restAt (Forward i First) b
-unfolding rk4 restAt question next stage after1 after2 after3 stageQuestion gridPoint kept slopesWith movedOn stepEnd
+unfolding rk4 restAt questionAt next stage after1 after2 after3 stageQuestion gridPoint kept withSlope movedOn endOf
 ahead-is i b h = forward-next i (b .plan) (b .places) (turning b) h
 
 pub behind-is : (i : ℕ) (b : Body) → 1 ≤ i → behind i b ≡ restAt (Backward i First) b
-unfolding rk4 restAt question next stage after1 after2 after3 stageQuestion gridPoint kept slopesWith movedBack stepEnd
+unfolding rk4 restAt questionAt next stage after1 after2 after3 stageQuestion gridPoint kept withSlope movedBack endOf
 behind-is i b h = backward-next i (b .plan) (b .places) (looking b) h
 
 pub tail-is : (b : Body) → tail (b .plan) (b .«startup_iters») (b .track) ≡ restAt (Tail First) b
-unfolding tail rk4 restAt question next stage after1 after2 after3 stageQuestion kept slopesWith tailed last tailEnd stepEnd
+unfolding tail rk4 restAt questionAt next stage after1 after2 after3 stageQuestion kept withSlope tailed last endOfTail endOf
 tail-is b = refl
 
 pub step-is : (b : Body)
     → step (b .plan) (b .track) (b .a) (λ (y : State) (c : Triple).
-    sampled (b .plan) (b .track .steps + 1) (stepSample (trackOn (b .plan) (b .track) y c) (slide (b .a) c) ∷ [])
-    (march (b .plan .settings .«max_steps» - (b .track .steps + 1)) (b .plan) (b .«startup_iters») (trackOn (b .plan) (b .track) y c) (slide (b .a) c)))
+    sampled (b .plan) (b .track .steps + 1) (stepSample (trackOn (b .plan) (b .track) y c) (slid (b .a) c) ∷ [])
+    (march (b .plan .settings .«max_steps» - (b .track .steps + 1)) (b .plan) (b .«startup_iters») (trackOn (b .plan) (b .track) y c) (slid (b .a) c)))
     ≡ restAt (Step 0) (predicted b)
-unfolding step restAt question next endPoint due committed predicted trackOn
+unfolding step restAt questionAt next endPoint due committed predicted trackOn
 step-is b =
     ap (λ (m : ℕ). asks (stepPoint (b .plan) (b .track) (predictedState (b .plan .h) (b .track .sums) (b .a))) (λ (c : Triple).
     correct m (b .plan) (b .track) (fixedOf (b .a)) (predictedState (b .plan .h) (b .track .sums) (b .a)) c (landing (predicted b))))
     (sym (sub-zero (b .plan .settings .«max_corrector_iters»)))
 
 pub seeing-is : (i : ℕ) (b : Body) → seeing (i ∷ later i) b ≡ restAt (Survey i) b
-unfolding survey restAt question next gridPoint surveyed
+unfolding survey restAt questionAt next gridPoint surveyed
 seeing-is i b = refl
 
 pub renewing-is : (i : ℕ) (b : Body) → renewing (i ∷ later i) b ≡ restAt (Pass i) b
-unfolding renew restAt question next gridPoint renewed
+unfolding renew restAt questionAt next gridPoint renewed
 renewing-is i b = refl

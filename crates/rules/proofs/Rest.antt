@@ -8,20 +8,21 @@ use Rattle.triple.specs.declared.State.{State}
 use Rattle.triple.specs.Nine.{at}
 use Rattle.startup.specs.declared.Places.{Places}
 use Rattle.startup.specs.declared.Widest.{Widest}
-use Rattle.startup.specs.Passes.{settled}
+use Rattle.startup.specs.Passes.{isSettled}
 use Rattle.run.specs.declared.Body.{Body}
 use Rattle.run.specs.declared.Run.{Run}
 use Rattle.run.specs.declared.waiting.Stage.{Stage}
 use Rattle.run.specs.declared.waiting.Stage.the-variants.{First, Second, Third, Fourth}
 use Rattle.run.specs.declared.waiting.Waiting.{Waiting}
 use Rattle.run.specs.declared.waiting.Waiting.the-variants.{Epoch, Forward, Backward, Survey, Pass, Step, Tail, TailSample, Ended, Unknown}
+use Rattle.run.specs.Limits.{wantsSamples}
 use Rattle.run.specs.Formulas.{finalPoint}
-use Rattle.run.specs.Waiting.{waitingOf}
-use Rattle.run.specs.Questions.{question}
-use Rattle.run.specs.Moves.{surveyed, kept, movedOn, movedBack, renewed, committed, tailEnd}
-use Rattle.run.specs.Samples.{stepSample, finalSample}
-use Rattle.run.specs.Counting.{soundOf}
-use Rattle.gauss_jackson.specs.Answers.{Turn}
+use Rattle.run.specs.Waiting.{waitsAt}
+use Rattle.run.specs.Questions.{questionAt}
+use Rattle.run.specs.Moves.{surveyed, kept, movedOn, movedBack, renewed, committed, endOfTail}
+use Rattle.run.specs.Samples.{stepSample, lastSample}
+use Rattle.run.specs.Sound.{isSound}
+use Rattle.gauss_jackson.specs.Answers.{Given}
 use Rattle.rules.specs.Rules.{Course, asks, stores, ends, exceeds, forward, backward, others, survey, renew, passes, sampled, tail, correct, step, march, fly}
 use Rattle.rules.specs.Walk.{told, Line, open-at, over, Stop}
 
@@ -49,7 +50,7 @@ seeing is b = survey is (b .plan) (b .places) (b .a) (sweeping b (b .places))
 -- after a pass
 abbrev pub passed : Body → List Triple → Widest → Course
 passed b a w =
-    cond (settled (b .plan .settings .«startup_tol») w)
+    cond (isSettled (b .plan .settings .«startup_tol») w)
     (fly (b .plan) (b .«startup_iters» + 1) (b .places) a)
     (passes (b .plan .settings .«max_startup_iters» - (b .«startup_iters» + 1)) (b .«startup_iters» + 1) (b .plan) (b .places) a (fly (b .plan)))
 
@@ -69,11 +70,11 @@ landing b y x = due (committed b y x)
 
 -- the tail has just been made
 unfoldable pub last : Body → State → Triple → Course
-last b e x = stores (b .track .steps + 1) (finalSample (b .plan) e x ∷ []) (ends (b .plan .tf) e (b .track .steps + 1) (b .«startup_iters»))
+last b e x = stores (b .track .steps + 1) (lastSample (b .plan) e x ∷ []) (ends (b .plan .tf) e (b .track .steps + 1) (b .«startup_iters»))
 
 unfoldable pub tailed : Body → State → Course
 tailed b e =
-    cond (b .plan .settings .samples)
+    cond (wantsSamples (b .plan .settings))
     (asks (finalPoint (b .plan) e) (last b e))
     (ends (b .plan .tf) e (b .track .steps + 1) (b .«startup_iters»))
 
@@ -92,13 +93,13 @@ later (suc (suc (suc (suc (suc (suc (suc (suc n)))))))) = []
 -- ---- an RK4 step, whose waiting points are w: after the answer to each stage; it ends in k
 module _ (w : Stage → Waiting) (k : Body → Triple → Course) where
   unfoldable pub after3 : Body → Triple → Course
-  after3 b x = asks (question (w Fourth) (kept Third b x)) (k (kept Third b x))
+  after3 b x = asks (questionAt (w Fourth) (kept Third b x)) (k (kept Third b x))
 
   unfoldable pub after2 : Body → Triple → Course
-  after2 b x = asks (question (w Third) (kept Second b x)) (after3 (kept Second b x))
+  after2 b x = asks (questionAt (w Third) (kept Second b x)) (after3 (kept Second b x))
 
   unfoldable pub after1 : Body → Triple → Course
-  after1 b x = asks (question (w Second) (kept First b x)) (after2 (kept First b x))
+  after1 b x = asks (questionAt (w Second) (kept First b x)) (after2 (kept First b x))
 
   unfoldable pub stage : Stage → Body → Triple → Course
   stage First b x = after1 b x
@@ -114,16 +115,16 @@ next (Backward i s) b x = stage (λ (s : Stage). Backward i s) (λ (b : Body) (x
 next (Survey i) b x = seeing (later i) (surveyed i b x)
 next (Pass i) b x = renewing (later i) (renewed i b x)
 next (Step n) b x = correct (b .plan .settings .«max_corrector_iters» - n) (b .plan) (b .track) (b .trial .fixed) (b .trial .state) x (landing b)
-next (Tail s) b x = stage (λ (s : Stage). Tail s) (λ (b : Body) (x : Triple). tailed b (tailEnd b x)) s b x
+next (Tail s) b x = stage (λ (s : Stage). Tail s) (λ (b : Body) (x : Triple). tailed b (endOfTail b x)) s b x
 next TailSample b x = last b (b .trial .state) x
 next Ended b x = exceeds
 next Unknown b x = exceeds
 
 unfoldable pub restAt : Waiting → Body → Course
-restAt w b = asks (question w b) (next w b)
+restAt w b = asks (questionAt w b) (next w b)
 
 unfoldable pub rest : Run → Course
-rest run = restAt (waitingOf (run .mark)) (run .body)
+rest run = restAt (waitsAt (run .mark)) (run .body)
 
 -- where a tree stands after e answers
 unfoldable pub opened : ℕ → ℕ → Course → Line
@@ -134,8 +135,8 @@ opened n e exceeds = over
 
 -- where the line of a run stands: where answer 7 is due, no question is open
 unfoldable pub lineOf : Run → Line
-lineOf run = cond (soundOf run) (opened (run .mark .count .number) (run .mark .count .evals) (rest run)) over
+lineOf run = cond (isSound run) (opened (run .mark .count .number) (run .mark .count .evals) (rest run)) over
 
 -- what is seen of a call
-unfoldable pub seen : Turn → Stop
+unfoldable pub seen : Given → Stop
 seen t = record { said = told (t .got .outcome); out = t .out; line = lineOf (t .got .run) }

@@ -10,10 +10,15 @@ use Rattle.triple.specs.declared.Triple.{Triple}
 use Rattle.triple.specs.declared.State.{State}
 use Rattle.triple.specs.declared.Point.{Point}
 use Rattle.refusals.specs.Numbers.{numberOf}
-use Rattle.refusals.specs.declared.Refusal.the-variants.{StepNotFinite, MaxStepsExceeded, Setting, SampleRoom, NoQuestion, NotThatQuestion}
+use Rattle.refusals.specs.declared.Refusal.the-variants.{MaxStepsExceeded, SampleRoom, NoQuestion, NotThatQuestion}
 use Rattle.run.specs.declared.Settings.{Settings}
-use Rattle.run.specs.Plan.{withinLimits, planOf, tooNear}
-use Rattle.run.specs.Samples.{fits, putAll}
+use Rattle.run.specs.declared.Plan.{Plan}
+use Rattle.run.specs.Plan.{planOf}
+use Rattle.run.specs.Limits.{numbering}
+use Rattle.run.specs.Samples.{hasRoom, putAll}
+use Rattle.gauss_jackson.specs.Answers.{verdictOn}
+use Rattle.gauss_jackson.specs.declared.Verdict.{Verdict}
+use Rattle.gauss_jackson.specs.declared.Verdict.the-variants.{Fine, Refuse}
 use Rattle.gauss_jackson.specs.declared.Outcome.{Outcome}
 use Rattle.gauss_jackson.specs.declared.Outcome.the-variants.{Ask, Done, Refused}
 use Rattle.rules.specs.Rules.{Course, asks, stores, ends, exceeds, integrate}
@@ -56,28 +61,27 @@ pub record Stop : Type 0 where
 unfoldable pub settle : Course → (n e : ℕ) → List Float → Stop
 settle (asks q k) n e out = record { said = question n q; out = out; line = open-at n e q k }
 settle (stores i ss c) n e out =
-    cond (fits i (length ss) out) (settle c n e (putAll i ss out)) (record { said = refused (numberOf SampleRoom); out = out; line = over })
+    cond (hasRoom i (length ss) out) (settle c n e (putAll i ss out)) (record { said = refused (numberOf SampleRoom); out = out; line = over })
 settle (ends t y steps startups) n e out = record { said = finished t y e steps startups; out = out; line = over }
 settle exceeds n e out = record { said = refused (numberOf MaxStepsExceeded); out = out; line = over }
 
 -- one call: the right number moves the line on, and another leaves it; where no question is open it is 7.
 -- "Numbers start at 0 and rise by one for each accepted answer; after 65,535 the next question is numbered 0."
-unfoldable pub turn : Line → Call → Stop
-turn (open-at n e q k) c =
+unfoldable pub called : Line → Call → Stop
+called (open-at n e q k) c =
     cond (eqb n (c .number))
-    (settle (k (c .a)) ((n + 1) % 65536) (e + 1) (c .out))
+    (settle (k (c .a)) ((n + 1) % numbering) (e + 1) (c .out))
     (record { said = refused (numberOf NotThatQuestion); out = c .out; line = open-at n e q k })
-turn over c = record { said = refused (numberOf NoQuestion); out = c .out; line = over }
+called over c = record { said = refused (numberOf NoQuestion); out = c .out; line = over }
 
 unfoldable pub walk : Line → List Call → List Result
 walk l [] = []
-walk l (c ∷ cs) = record { said = turn l c .said; out = turn l c .out } ∷ walk (turn l c .line) cs
+walk l (c ∷ cs) = record { said = called l c .said; out = called l c .out } ∷ walk (called l c .line) cs
 
--- a start: "Order: at start 5, 1"; else question 0, the first of the tree
+-- a start: its refusal, or else question 0, the first of the tree
+unfoldable pub beginBy : Verdict → Plan → Triple → Triple → Stop
+beginBy Fine p r0 v0 = settle (integrate p r0 v0) 0 0 []
+beginBy (Refuse e) p r0 v0 = record { said = refused (numberOf e); out = []; line = over }
+
 unfoldable pub begin : Settings → Float → Float → Triple → Triple → Stop
-begin s t0 tf r0 v0 =
-    cond (withinLimits s)
-    (cond (tooNear (planOf s t0 tf))
-    (record { said = refused (numberOf StepNotFinite); out = []; line = over })
-    (settle (integrate (planOf s t0 tf) r0 v0) 0 0 []))
-    (record { said = refused (numberOf Setting); out = []; line = over })
+begin s t0 tf r0 v0 = beginBy (verdictOn (planOf s t0 tf)) (planOf s t0 tf) r0 v0

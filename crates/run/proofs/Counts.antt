@@ -1,8 +1,8 @@
--- What `soundOf` says, as facts on numbers, both ways; and how the counts move on.
+-- What `isSound` says, as facts on numbers, both ways; and how the counts move on.
 use mathlib.Core.Path.{_≡_, refl, sym, subst, _∙_}
 use mathlib.Core.Logic.{_≢_}
 use Prim.Native.Nat.{ℕ, _+_, _-_, _*_, _%_, _≤_, _<_}
-use native.Mathlib.Nat.{le-trans, mul-le-mul}
+use native.Mathlib.Nat.{mul-le-mul}
 use native.Mathlib.Omega.{arith}
 use mathlib.Core.Bool.{Bool, true, false, not, _&&_, cond}
 use lib.Dec.{eqb, ltb, leb}
@@ -15,9 +15,10 @@ use Rattle.run.specs.declared.waiting.Stage.{Stage}
 use Rattle.run.specs.declared.waiting.Stage.the-variants.{First, Second, Third, Fourth}
 use Rattle.run.specs.declared.waiting.Waiting.{Waiting}
 use Rattle.run.specs.declared.waiting.Waiting.the-variants.{Epoch, Forward, Backward, Survey, Pass, Step, Tail, TailSample, Ended, Unknown}
-use Rattle.run.specs.Plan.{withinLimits}
-use Rattle.run.specs.Waiting.{stageNo, markOf, waitingOf}
-use Rattle.run.specs.Counting.{idle, forwardCounts, backwardCounts, rank, pointCounts, passCounts, startedUp, stepCounts, countsOf, soundOf, Small, Ready}
+use Rattle.run.specs.Limits.{maxPasses, maxSteps, numbering, ample, areWithinLimits, wantsSamples}
+use Rattle.run.specs.Waiting.{stageNumber, markAt, waitsAt}
+use Rattle.run.specs.Sound.{isIdle, forwardCounts, backwardCounts, rankOf, pointCounts, passCounts, isStartedUp, stepCounts, bodyCounts, hasCounts, isSound}
+use Rattle.run.specs.Ready.{Small, Ready}
 use Rattle.run.proofs.Decoding.{read}
 
 -- ---- tests
@@ -64,43 +65,43 @@ SteppingBody k e b = Stepping k e (b .«startup_iters») (b .plan .settings .«m
 pub record Point (i before e : ℕ) : Type 0 where
   pub last : i ≤ 8
   pub other : i ≢ 4
-  pub answers : e ≡ before + rank i
+  pub answers : e ≡ before + rankOf i
 
 abbrev pub Counts : Waiting → ℕ → Body → Type 0
 Counts Epoch e b = (e ≡ 0) × IdleBody b
-Counts (Forward i s) e b = (4 ≤ i) × (i ≤ 7) × (e ≡ 4 * i + stageNo s - 15) × IdleBody b
-Counts (Backward i s) e b = (1 ≤ i) × (i ≤ 4) × (e ≡ 33 + stageNo s - 4 * i) × IdleBody b
+Counts (Forward i s) e b = (4 ≤ i) × (i ≤ 7) × (e ≡ 4 * i + stageNumber s - 15) × IdleBody b
+Counts (Backward i s) e b = (1 ≤ i) × (i ≤ 4) × (e ≡ 33 + stageNumber s - 4 * i) × IdleBody b
 Counts (Survey i) e b = Point i 33 e × IdleBody b
 Counts (Pass i) e b = (b .«startup_iters» < b .plan .settings .«max_startup_iters») × (b .track .steps ≡ 0) × Point i (41 + 8 * b .«startup_iters») e
 Counts (Step c) e b = (c ≤ b .plan .settings .«max_corrector_iters») × (b .track .steps < b .plan .settings .«max_steps») × SteppingBody c e b
-Counts (Tail s) e b = (b .track .steps < b .plan .settings .«max_steps») × SteppingBody (stageNo s) e b
-Counts TailSample e b = (b .plan .settings .samples ≡ true) × (b .track .steps < b .plan .settings .«max_steps») × SteppingBody 4 e b
+Counts (Tail s) e b = (b .track .steps < b .plan .settings .«max_steps») × SteppingBody (stageNumber s) e b
+Counts TailSample e b = (wantsSamples (b .plan .settings) ≡ true) × (b .track .steps < b .plan .settings .«max_steps») × SteppingBody 4 e b
 Counts Ended e b = ⊥
 Counts Unknown e b = ⊥
 
 -- ---- from the tests to the facts
-to-idle : (b : Body) → idle b ≡ true → IdleBody b
-unfolding idle
+to-idle : (b : Body) → isIdle b ≡ true → IdleBody b
+unfolding isIdle
 to-idle b t = let h = both _ _ t in record { passes = eqb-true _ _ (h .0); steps = eqb-true _ _ (h .1) }
 
-pub to-started : (b : Body) → startedUp b ≡ true → StartedBody b
-unfolding startedUp
-to-started b t =
+pub to-started : (S M : ℕ) → isStartedUp S M ≡ true → Started S M
+unfolding isStartedUp
+to-started S M t =
     let h = both _ _ t in
-    record { most = leb-true _ _ (h .0); some = λ z. go (eqb (b .«startup_iters») 0) (eq-eqb _ _ z) (h .1) }
+    record { most = leb-true _ _ (h .0); some = λ z. go (eqb S 0) (eq-eqb _ _ z) (h .1) }
   where
-    go : (d : Bool) → d ≡ true → cond d (eqb (b .plan .settings .«max_startup_iters») 0) (not false) ≡ true → b .plan .settings .«max_startup_iters» ≡ 0
+    go : (d : Bool) → d ≡ true → cond d (eqb M 0) (not false) ≡ true → M ≡ 0
     go true e u = eqb-true _ _ u
     go false e u = apart e
 
-pub below : (k e : ℕ) (b : Body) → stepCounts k e b ≡ true → (b .track .steps < b .plan .settings .«max_steps») × SteppingBody k e b
+pub below : (k e : ℕ) (s : Settings) (S n : ℕ) → stepCounts k e s S n ≡ true → (n < s .«max_steps») × Stepping k e S (s .«max_startup_iters») n (s .«max_corrector_iters»)
 unfolding stepCounts
-below k e b t =
+below k e s S n t =
     let h = both _ _ t in
     let i = both _ _ (h .0) in
     let j = both _ _ (i .0) in
     let l = both _ _ (j .0) in
-    (ltb-true _ _ (j .1), record { started = to-started b (l .0); four = leb-true _ _ (l .1); lower = leb-true _ _ (i .1); upper = leb-true _ _ (h .1) })
+    (ltb-true _ _ (j .1), record { started = to-started _ _ (l .0); four = leb-true _ _ (l .1); lower = leb-true _ _ (i .1); upper = leb-true _ _ (h .1) })
 
 to-point : (i before e : ℕ) → pointCounts i before e ≡ true → Point i before e
 unfolding pointCounts
@@ -113,79 +114,83 @@ to-point i before e t =
     go true q u = apart u
     go false q u = eqb-false _ _ q
 
-to-counts : (w : Waiting) (e : ℕ) (b : Body) → countsOf w e b ≡ true → Counts w e b
-unfolding countsOf forwardCounts backwardCounts passCounts
+to-counts : (w : Waiting) (e : ℕ) (b : Body) → hasCounts w e b ≡ true → Counts w e b
+unfolding hasCounts forwardCounts backwardCounts passCounts
 to-counts Epoch e b t = let h = both _ _ t in (eqb-true _ _ (h .0), to-idle b (h .1))
 to-counts (Forward i s) e b t = let h = both _ _ t in let k = both _ _ (h .0) in let l = both _ _ (k .0) in (leb-true _ _ (l .0), leb-true _ _ (l .1), eqb-true _ _ (k .1), to-idle b (h .1))
 to-counts (Backward i s) e b t = let h = both _ _ t in let k = both _ _ (h .0) in let l = both _ _ (k .0) in (leb-true _ _ (l .0), leb-true _ _ (l .1), eqb-true _ _ (k .1), to-idle b (h .1))
 to-counts (Survey i) e b t = let h = both _ _ t in (to-point i 33 e (h .0), to-idle b (h .1))
 to-counts (Pass i) e b t = let h = both _ _ t in let k = both _ _ (h .0) in (ltb-true _ _ (k .0), eqb-true _ _ (k .1), to-point i _ e (h .1))
-to-counts (Step c) e b t = let h = both _ _ t in let k = below c e b (h .1) in (leb-true _ _ (h .0), k .0, k .1)
-to-counts (Tail s) e b t = below (stageNo s) e b t
-to-counts TailSample e b t = let h = both _ _ t in let k = below 4 e b (h .1) in (h .0, k .0, k .1)
+to-counts (Step c) e b t = let h = both _ _ t in let k = below c e _ _ _ (h .1) in (leb-true _ _ (h .0), k .0, k .1)
+to-counts (Tail s) e b t = below (stageNumber s) e _ _ _ t
+to-counts TailSample e b t = let h = both _ _ t in let k = below 4 e _ _ _ (h .1) in (h .0, k .0, k .1)
 to-counts Ended e b t = apart t
 to-counts Unknown e b t = apart t
 
 -- ---- and back
-from-idle : (b : Body) → IdleBody b → idle b ≡ true
-unfolding idle
+from-idle : (b : Body) → IdleBody b → isIdle b ≡ true
+unfolding isIdle
 from-idle b h = simp (eq-eqb _ _ (h .passes), eq-eqb _ _ (h .steps))
 
-from-started : (b : Body) → StartedBody b → startedUp b ≡ true
-unfolding startedUp
-from-started b h = rw (le-leb _ _ (h .most)) (go (eqb (b .«startup_iters») 0) refl)
+from-started : (S M : ℕ) → Started S M → isStartedUp S M ≡ true
+unfolding isStartedUp
+from-started S M h = rw (le-leb _ _ (h .most)) (go (eqb S 0) refl)
   where
-    go : (d : Bool) → eqb (b .«startup_iters») 0 ≡ d → cond d (eqb (b .plan .settings .«max_startup_iters») 0) (not false) ≡ true
+    go : (d : Bool) → eqb S 0 ≡ d → cond d (eqb M 0) (not false) ≡ true
     go true e = eq-eqb _ _ (h .some (eqb-true _ _ e))
     go false e = refl
 
-from-below : (k e : ℕ) (b : Body) → b .track .steps < b .plan .settings .«max_steps» → SteppingBody k e b → stepCounts k e b ≡ true
+from-below : (k e : ℕ) (b : Body) → b .track .steps < b .plan .settings .«max_steps» → SteppingBody k e b → bodyCounts k e b ≡ true
 unfolding stepCounts
-from-below k e b m h = rw (from-started b (h .started), le-leb _ _ (h .four), lt-ltb _ _ m, le-leb _ _ (h .lower), le-leb _ _ (h .upper))
+from-below k e b m h = rw (from-started _ _ (h .started), le-leb _ _ (h .four), lt-ltb _ _ m, le-leb _ _ (h .lower), le-leb _ _ (h .upper))
 
 from-point : (i before e : ℕ) → Point i before e → pointCounts i before e ≡ true
 unfolding pointCounts
 from-point i before e h = rw (le-leb _ _ (h .last), ne-eqb _ _ (h .other), eq-eqb _ _ (h .answers))
 
-from-counts : (w : Waiting) (e : ℕ) (b : Body) → Counts w e b → countsOf w e b ≡ true
-unfolding countsOf forwardCounts backwardCounts passCounts
+from-counts : (w : Waiting) (e : ℕ) (b : Body) → Counts w e b → hasCounts w e b ≡ true
+unfolding hasCounts forwardCounts backwardCounts passCounts
 from-counts Epoch e b c = rw (eq-eqb _ _ (c .0), from-idle b (c .1))
 from-counts (Forward i s) e b c = rw (le-leb _ _ (c .0), le-leb _ _ (c .1), eq-eqb _ _ (c .2), from-idle b (c .3))
 from-counts (Backward i s) e b c = rw (le-leb _ _ (c .0), le-leb _ _ (c .1), eq-eqb _ _ (c .2), from-idle b (c .3))
 from-counts (Survey i) e b c = rw (from-point i 33 e (c .0), from-idle b (c .1))
 from-counts (Pass i) e b c = rw (lt-ltb _ _ (c .0), eq-eqb _ _ (c .1), from-point i _ e (c .2))
 from-counts (Step n) e b c = rw (le-leb _ _ (c .0), from-below n e b (c .1) (c .2))
-from-counts (Tail s) e b c = from-below (stageNo s) e b (c .0) (c .1)
-from-counts TailSample e b c = joined (b .plan .settings .samples) (stepCounts 4 e b) (c .0) (from-below 4 e b (c .1) (c .2))
+from-counts (Tail s) e b c = from-below (stageNumber s) e b (c .0) (c .1)
+from-counts TailSample e b c = joined (wantsSamples (b .plan .settings)) (bodyCounts 4 e b) (c .0) (from-below 4 e b (c .1) (c .2))
 from-counts Ended e b c = absurd c
 from-counts Unknown e b c = absurd c
 
 -- ---- a sound run
 pub record Facts (run : Run) : Type 0 where
-  pub limited : withinLimits (run .body .plan .settings) ≡ true
-  pub numbered : run .mark .count .number ≡ run .mark .count .evals % 65536
-  pub counted : Counts (waitingOf (run .mark)) (run .mark .count .evals) (run .body)
+  pub limited : areWithinLimits (run .body .plan .settings) ≡ true
+  pub numbered : run .mark .count .number ≡ run .mark .count .evals % numbering
+  pub counted : Counts (waitsAt (run .mark)) (run .mark .count .evals) (run .body)
 
-pub to-small : (b : Body) → withinLimits (b .plan .settings) ≡ true → Small b
-unfolding withinLimits
-to-small b t = let h = both _ _ t in let k = both _ _ (h .0) in record { startups = leb-true _ _ (k .0); passes = leb-true _ _ (k .1); steps = leb-true _ _ (h .1) }
+pub to-small : (s : Settings) → areWithinLimits s ≡ true → Small s
+unfolding areWithinLimits
+to-small s t =
+    let h = both _ _ t in
+    let f = both _ _ (h .0) in
+    let k = both _ _ (f .0) in
+    record { startups = leb-true _ _ (k .0); passes = leb-true _ _ (k .1); steps = leb-true _ _ (h .1) }
 
-pub to-facts : (run : Run) → soundOf run ≡ true → Facts run
-unfolding soundOf
+pub to-facts : (run : Run) → isSound run ≡ true → Facts run
+unfolding isSound
 to-facts run t =
     let h = both _ _ t in
     let k = both _ _ (h .0) in
-    record { limited = k .0; numbered = eqb-true _ _ (k .1); counted = to-counts (waitingOf (run .mark)) (run .mark .count .evals) (run .body) (h .1) }
+    record { limited = k .0; numbered = eqb-true _ _ (k .1); counted = to-counts (waitsAt (run .mark)) (run .mark .count .evals) (run .body) (h .1) }
 
 -- a run that has just been marked at a waiting point
-pub sound-at : (w : Waiting) (c : Count) (b : Body) → withinLimits (b .plan .settings) ≡ true → c .number ≡ c .evals % 65536 → Counts w (c .evals) b
-    → soundOf (record { mark = markOf w c; body = b }) ≡ true
-unfolding soundOf
+pub sound-at : (w : Waiting) (c : Count) (b : Body) → areWithinLimits (b .plan .settings) ≡ true → c .number ≡ c .evals % numbering → Counts w (c .evals) b
+    → isSound (record { mark = markAt w c; body = b }) ≡ true
+unfolding isSound
 sound-at w c b l n h = rw (l, eq-eqb _ _ n, read w c, from-counts w (c .evals) b h)
 
 -- ---- no count wraps
-pub rank-le : (i : ℕ) → rank i ≤ i
-unfolding rank
+pub rank-le : (i : ℕ) → rankOf i ≤ i
+unfolding rankOf
 rank-le i = go (ltb i 4)
   where
     go : (d : Bool) → cond d i (i - 1) ≤ i
@@ -193,10 +198,10 @@ rank-le i = go (ltb i 4)
     go false = omega arith
 
 -- the answers of all steps
-pub few : (b : Body) → b .track .steps < b .plan .settings .«max_steps» → Small b → (b .track .steps - 4) * (1 + b .plan .settings .«max_corrector_iters») ≤ 101_000_000
-few b m s = le-trans (mul-le-mul {n₂ = 1_000_000} {m₂ = 101} (omega (arith, s .steps)) (omega (arith, s .passes))) (omega arith)
+pub few : (s : Settings) (n : ℕ) → n < s .«max_steps» → Small s → (n - 4) * (1 + s .«max_corrector_iters») ≤ maxSteps * (1 + maxPasses)
+few s n m h = mul-le-mul {n₂ = maxSteps} {m₂ = 1 + maxPasses} (omega (arith, h .steps)) (omega (arith, h .passes))
 
-answers-small : (w : Waiting) (e : ℕ) (b : Body) → Small b → Counts w e b → e < 1_000_000_000
+answers-small : (w : Waiting) (e : ℕ) (b : Body) → Small (b .plan .settings) → Counts w e b → e < ample
 answers-small Epoch e b s c = omega arith
 answers-small (Forward i First) e b s c = omega arith
 answers-small (Forward i Second) e b s c = omega arith
@@ -208,19 +213,19 @@ answers-small (Backward i Third) e b s c = omega arith
 answers-small (Backward i Fourth) e b s c = omega arith
 answers-small (Survey i) e b s c = omega (arith, rank-le i)
 answers-small (Pass i) e b s c = omega (arith, rank-le i, s .startups)
-answers-small (Step n) e b s c = omega (arith, few b (c .1) s, c .2 .started .most, s .startups, s .passes)
-answers-small (Tail First) e b s c = omega (arith, few b (c .0) s, c .1 .started .most, s .startups)
-answers-small (Tail Second) e b s c = omega (arith, few b (c .0) s, c .1 .started .most, s .startups)
-answers-small (Tail Third) e b s c = omega (arith, few b (c .0) s, c .1 .started .most, s .startups)
-answers-small (Tail Fourth) e b s c = omega (arith, few b (c .0) s, c .1 .started .most, s .startups)
-answers-small TailSample e b s c = omega (arith, few b (c .1) s, c .2 .started .most, s .startups)
+answers-small (Step n) e b s c = omega (arith, few _ _ (c .1) s, c .2 .started .most, s .startups, s .passes)
+answers-small (Tail First) e b s c = omega (arith, few _ _ (c .0) s, c .1 .started .most, s .startups)
+answers-small (Tail Second) e b s c = omega (arith, few _ _ (c .0) s, c .1 .started .most, s .startups)
+answers-small (Tail Third) e b s c = omega (arith, few _ _ (c .0) s, c .1 .started .most, s .startups)
+answers-small (Tail Fourth) e b s c = omega (arith, few _ _ (c .0) s, c .1 .started .most, s .startups)
+answers-small TailSample e b s c = omega (arith, few _ _ (c .1) s, c .2 .started .most, s .startups)
 answers-small Ended e b s c = absurd c
 answers-small Unknown e b s c = absurd c
 
-pub evals-small : (run : Run) → soundOf run ≡ true → run .mark .count .evals < 1_000_000_000
-evals-small run t = let f = to-facts run t in answers-small (waitingOf (run .mark)) (run .mark .count .evals) (run .body) (to-small (run .body) (f .limited)) (f .counted)
+pub evals-small : (run : Run) → isSound run ≡ true → run .mark .count .evals < ample
+evals-small run t = let f = to-facts run t in answers-small (waitsAt (run .mark)) (run .mark .count .evals) (run .body) (to-small (run .body .plan .settings) (f .limited)) (f .counted)
 
-ready-at : (w : Waiting) (e : ℕ) (b : Body) → Small b → Counts w e b → Ready w b
+ready-at : (w : Waiting) (e : ℕ) (b : Body) → Small (b .plan .settings) → Counts w e b → Ready w b
 ready-at Epoch e b s c = tt
 ready-at (Forward i st) e b s c = omega arith
 ready-at (Backward i st) e b s c = omega arith
@@ -232,5 +237,5 @@ ready-at TailSample e b s c = omega (arith, s .steps)
 ready-at Ended e b s c = absurd c
 ready-at Unknown e b s c = absurd c
 
-pub ready : (run : Run) → soundOf run ≡ true → Ready (waitingOf (run .mark)) (run .body)
-ready run t = let f = to-facts run t in ready-at (waitingOf (run .mark)) (run .mark .count .evals) (run .body) (to-small (run .body) (f .limited)) (f .counted)
+pub ready : (run : Run) → isSound run ≡ true → Ready (waitsAt (run .mark)) (run .body)
+ready run t = let f = to-facts run t in ready-at (waitsAt (run .mark)) (run .mark .count .evals) (run .body) (to-small (run .body .plan .settings) (f .limited)) (f .counted)

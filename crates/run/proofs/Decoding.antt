@@ -7,7 +7,7 @@ use Rattle.run.specs.declared.waiting.Stage.{Stage}
 use Rattle.run.specs.declared.waiting.Stage.the-variants.{First, Second, Third, Fourth}
 use Rattle.run.specs.declared.waiting.Waiting.{Waiting}
 use Rattle.run.specs.declared.waiting.Waiting.the-variants.{Epoch, Forward, Backward, Survey, Pass, Step, Tail, TailSample, Ended, Unknown}
-use Rattle.run.specs.Waiting.{stageNo, markOf, stageFrom, waitingAt, waitingOf}
+use Rattle.run.specs.Waiting.{stageNumber, markAt, stageFrom, waitingAt, waitsAt}
 
 -- a stage that is none of the first three
 pub fourth : (n : ℕ) → n ≢ 0 → n ≢ 1 → n ≢ 2 → Fourth ≡ stageFrom n
@@ -32,8 +32,8 @@ unknown (suc (suc (suc (suc (suc (suc (suc (suc zero)))))))) i s a b c d e f g h
 unknown (suc (suc (suc (suc (suc (suc (suc (suc (suc n))))))))) i s a b c d e f g h k = refl
 
 -- what is written is read again
-pub read : (w : Waiting) (c : Count) → waitingOf (markOf w c) ≡ w
-unfolding waitingOf waitingAt stageFrom
+pub read : (w : Waiting) (c : Count) → waitsAt (markAt w c) ≡ w
+unfolding waitsAt waitingAt stageFrom
 read Epoch c = refl
 read (Forward i First) c = refl
 read (Forward i Second) c = refl

@@ -1,10 +1,10 @@
 -- How the counts move on: each answer takes the counts of its waiting point to those of the next.
-use mathlib.Core.Path.{_≡_, refl, sym, _∙_, ap}
+use mathlib.Core.Path.{_≡_, refl, sym, _∙_, ap, subst}
 use mathlib.Core.Logic.{_≢_}
 use Prim.Native.Nat.{ℕ, zero, suc, _+_, _-_, _*_, _≤_, _<_}
 use native.Mathlib.Nat.{suc-mul}
 use native.Mathlib.Omega.{arith}
-use mathlib.Core.Bool.{Bool, true, false, cond}
+use mathlib.Core.Bool.{Bool, true, false, cond, false≢true}
 use lib.Dec.{eqb, ltb}
 use borrow.Author.Tests.{eqb-true, eqb-false, ltb-true, ltb-false}
 use Rattle.triple.specs.declared.Triple.{Triple}
@@ -14,8 +14,9 @@ use Rattle.run.specs.declared.waiting.Stage.{Stage}
 use Rattle.run.specs.declared.waiting.Stage.the-variants.{First, Second, Third, Fourth}
 use Rattle.run.specs.declared.waiting.Waiting.{Waiting}
 use Rattle.run.specs.declared.waiting.Waiting.the-variants.{Epoch, Forward, Backward, Survey, Pass, Step, Tail, TailSample}
-use Rattle.run.specs.Waiting.{stageNo, nextPoint}
-use Rattle.run.specs.Counting.{rank}
+use Rattle.run.specs.Limits.{wantsSamples}
+use Rattle.run.specs.Waiting.{stageNumber, isLast, stageAfter, nextPoint}
+use Rattle.run.specs.Sound.{rankOf}
 use Rattle.run.specs.Formulas.{startTrack, trackOn}
 use Rattle.run.specs.Moves.{surveyed, kept, movedOn, movedBack, passBegun, renewed, passMade, launched, predicted, tried, committed}
 use Rattle.run.proofs.Counts.{Stepping, SteppingBody, Point, Counts}
@@ -25,18 +26,17 @@ pub epoch-on : (e : ℕ) (b : Body) (x : Triple) → Counts Epoch e b → Counts
 unfolding surveyed
 epoch-on e b x c = (omega arith, omega arith, omega (arith, c .0), c .1)
 
+-- an RK4 step's next question
+one-further : (s : Stage) → isLast s ≡ false → stageNumber (stageAfter s) ≡ stageNumber s + 1
+one-further First h = refl
+one-further Second h = refl
+one-further Third h = refl
+one-further Fourth h = absurd (false≢true (sym h))
+
 module _ (i e : ℕ) (b : Body) (x : Triple) where
-  pub forward-second : Counts (Forward i First) e b → Counts (Forward i Second) (e + 1) (kept First b x)
+  pub forward-kept : (s : Stage) → isLast s ≡ false → Counts (Forward i s) e b → Counts (Forward i (stageAfter s)) (e + 1) (kept s b x)
   unfolding kept
-  forward-second c = (c .0, c .1, omega arith, c .3)
-
-  pub forward-third : Counts (Forward i Second) e b → Counts (Forward i Third) (e + 1) (kept Second b x)
-  unfolding kept
-  forward-third c = (c .0, c .1, omega arith, c .3)
-
-  pub forward-fourth : Counts (Forward i Third) e b → Counts (Forward i Fourth) (e + 1) (kept Third b x)
-  unfolding kept
-  forward-fourth c = (c .0, c .1, omega arith, c .3)
+  forward-kept s h c = (c .0, c .1, omega (arith, one-further s h, c .2), c .3)
 
   pub forward-on : i < 7 → Counts (Forward i Fourth) e b → Counts (Forward (i + 1) First) (e + 1) (movedOn i b x)
   unfolding movedOn
@@ -46,30 +46,22 @@ module _ (i e : ℕ) (b : Body) (x : Triple) where
   unfolding movedOn
   forward-last h c = (omega arith, omega arith, omega arith, c .3)
 
-  pub backward-second : Counts (Backward i First) e b → Counts (Backward i Second) (e + 1) (kept First b x)
+  pub backward-kept : (s : Stage) → isLast s ≡ false → Counts (Backward i s) e b → Counts (Backward i (stageAfter s)) (e + 1) (kept s b x)
   unfolding kept
-  backward-second c = (c .0, c .1, omega arith, c .3)
-
-  pub backward-third : Counts (Backward i Second) e b → Counts (Backward i Third) (e + 1) (kept Second b x)
-  unfolding kept
-  backward-third c = (c .0, c .1, omega arith, c .3)
-
-  pub backward-fourth : Counts (Backward i Third) e b → Counts (Backward i Fourth) (e + 1) (kept Third b x)
-  unfolding kept
-  backward-fourth c = (c .0, c .1, omega arith, c .3)
+  backward-kept s h c = (c .0, c .1, omega (arith, one-further s h, c .2), c .3)
 
   pub backward-on : 1 < i → Counts (Backward i Fourth) e b → Counts (Backward (i - 1) First) (e + 1) (movedBack i b x)
   unfolding movedBack
   backward-on h c = (omega arith, omega arith, omega arith, c .3)
 
   pub backward-last : i ≤ 1 → Counts (Backward i Fourth) e b → Counts (Survey 0) (e + 1) (movedBack i b x)
-  unfolding movedBack rank
+  unfolding movedBack rankOf
   backward-last h c = (record { last = omega arith; other = omega arith; answers = omega arith }, c .3)
 
 -- ---- the points other than the epoch, in order
 -- point i is followed by the next, which is one further in rank
-pub ranked : (i : ℕ) → i < 8 → i ≢ 4 → (nextPoint i ≤ 8) × (nextPoint i ≢ 4) × (rank (nextPoint i) ≡ rank i + 1)
-unfolding rank nextPoint
+pub ranked : (i : ℕ) → i < 8 → i ≢ 4 → (nextPoint i ≤ 8) × (nextPoint i ≢ 4) × (rankOf (nextPoint i) ≡ rankOf i + 1)
+unfolding rankOf nextPoint
 ranked i h o = three (eqb i 3) refl
   where
     go : (p r : Bool) → i ≢ 3 → ltb i 4 ≡ p → ltb (i + 1) 4 ≡ r → cond r (i + 1) (i + 1 - 1) ≡ cond p i (i - 1) + 1
@@ -82,8 +74,8 @@ ranked i h o = three (eqb i 3) refl
     three true q = let z : i ≡ 3 = eqb-true _ _ q in (omega arith, omega arith, rw z)
     three false q = let z : i ≢ 3 = eqb-false _ _ q in (omega arith, omega arith, go (ltb i 4) (ltb (i + 1) 4) z refl refl)
 
-pub last-rank : (i : ℕ) → 8 ≤ i → i ≤ 8 → rank i ≡ 7
-unfolding rank
+pub last-rank : (i : ℕ) → 8 ≤ i → i ≤ 8 → rankOf i ≡ 7
+unfolding rankOf
 last-rank i h k = let z : i ≡ 8 = omega arith in rw z
 
 point-on : (i before e : ℕ) → i < 8 → Point i before e → Point (nextPoint i) before (e + 1)
@@ -114,7 +106,7 @@ module _ (i e : ℕ) (b : Body) (x : Triple) where
   pass-last h c = record { answers = omega (arith, last-rank i h (c .2 .last), c .2 .answers); most = omega (arith, c .0); steps = c .1 }
 
 pub pass-first : (e : ℕ) (b : Body) → Swept e b → b .«startup_iters» < b .plan .settings .«max_startup_iters» → Counts (Pass 0) e (passBegun b)
-unfolding passBegun rank
+unfolding passBegun rankOf
 pass-first e b s h = (h, s .steps, record { last = omega arith; other = omega arith; answers = omega (arith, s .answers) })
 
 -- ---- the steps
@@ -156,18 +148,10 @@ module _ (e : ℕ) (b : Body) where
       }
 
   -- the tail's questions
-  pub tail-second : (x : Triple) → Counts (Tail First) e b → Counts (Tail Second) (e + 1) (kept First b x)
+  pub tail-kept : (s : Stage) (x : Triple) → isLast s ≡ false → Counts (Tail s) e b → Counts (Tail (stageAfter s)) (e + 1) (kept s b x)
   unfolding kept
-  tail-second x c = (c .0, one-more 0 (c .1))
+  tail-kept s x h c = (c .0, subst (λ (k : ℕ). SteppingBody k (e + 1) b) (sym (one-further s h)) (one-more (stageNumber s) (c .1)))
 
-  pub tail-third : (x : Triple) → Counts (Tail Second) e b → Counts (Tail Third) (e + 1) (kept Second b x)
-  unfolding kept
-  tail-third x c = (c .0, one-more 1 (c .1))
-
-  pub tail-fourth : (x : Triple) → Counts (Tail Third) e b → Counts (Tail Fourth) (e + 1) (kept Third b x)
-  unfolding kept
-  tail-fourth x c = (c .0, one-more 2 (c .1))
-
-  pub tail-last : (y : State) → b .plan .settings .samples ≡ true → Counts (Tail Fourth) e b → Counts TailSample (e + 1) (tried b y)
+  pub tail-last : (y : State) → wantsSamples (b .plan .settings) ≡ true → Counts (Tail Fourth) e b → Counts TailSample (e + 1) (tried b y)
   unfolding tried
   tail-last y w c = (w, c .0, one-more 3 (c .1))

@@ -1,7 +1,9 @@
+pub mod Limits
 pub mod Plan
 pub mod Formulas
 pub mod Waiting
 pub mod Questions
 pub mod Moves
 pub mod Samples
-pub mod Counting
+pub mod Sound
+pub mod Ready

@@ -7,11 +7,11 @@ use Rattle.triple.specs.declared.Triple.{Triple}
 use Rattle.triple.specs.declared.State.{State}
 use Rattle.triple.specs.declared.Point.{Point}
 use Rattle.triple.specs.Arithmetic.{nought, zeros}
-use Rattle.triple.specs.Nine.{at, nineZeros, slide}
-use Rattle.rk4.specs.Rk4.{ending}
+use Rattle.triple.specs.Nine.{at, nineZeros, slid}
+use Rattle.rk4.specs.Rk4.{endOfStep}
 use Rattle.sums.specs.Sums.{predictedState, fixedOf}
 use Rattle.startup.specs.Points.{firstPlaces, placed}
-use Rattle.startup.specs.Passes.{passPlaces, widened, calm}
+use Rattle.startup.specs.Passes.{passPlaces, widened, calmAt}
 use Rattle.startup.specs.declared.Places.{Places}
 use Rattle.startup.specs.declared.Widest.{Widest}
 use Rattle.run.specs.declared.Plan.{Plan}
@@ -21,7 +21,7 @@ use Rattle.run.specs.declared.Body.{Body}
 use Rattle.run.specs.declared.Slopes.{Slopes}
 use Rattle.run.specs.declared.waiting.Stage.{Stage}
 use Rattle.run.specs.declared.waiting.Stage.the-variants.{First, Second, Third, Fourth}
-use Rattle.run.specs.Formulas.{remains, startTrack, trackOn, tailPoint}
+use Rattle.run.specs.Formulas.{leftAt, startTrack, trackOn, tailFrom}
 use Rattle.run.specs.Questions.{gridPoint}
 
 -- ---- a body with one part changed: there is no record update, so each is written once
@@ -62,34 +62,34 @@ freshBody p r0 v0 =
 
 -- "a[4] at t0", and "Then a[i] for i = 0, 1, 2, 3, 5, 6, 7, 8"
 unfoldable pub surveyed : ℕ → Body → Triple → Body
-surveyed i b x = withA b (set (b .a) i x)
+surveyed i b a = withA b (set (b .a) i a)
 
 -- ---- an RK4 step: its first three accelerations are kept, the fourth ends it
-unfoldable pub slopesWith : Stage → Slopes → Triple → Slopes
-slopesWith First l x = record { l1 = x; l2 = l .l2; l3 = l .l3 }
-slopesWith Second l x = record { l1 = l .l1; l2 = x; l3 = l .l3 }
-slopesWith Third l x = record { l1 = l .l1; l2 = l .l2; l3 = x }
-slopesWith Fourth l x = l
+unfoldable pub withSlope : Stage → Slopes → Triple → Slopes
+withSlope First l a = record { l1 = a; l2 = l .l2; l3 = l .l3 }
+withSlope Second l a = record { l1 = l .l1; l2 = a; l3 = l .l3 }
+withSlope Third l a = record { l1 = l .l1; l2 = l .l2; l3 = a }
+withSlope Fourth l a = l
 
 unfoldable pub kept : Stage → Body → Triple → Body
-kept s b x = withSlopes b (slopesWith s (b .slopes) x)
+kept s b a = withSlopes b (withSlope s (b .slopes) a)
 
-unfoldable pub stepEnd : Point → Float → Slopes → Triple → State
-stepEnd p h l x = ending p h (l .l1) (l .l2) (l .l3) x
+unfoldable pub endOf : Point → Float → Slopes → Triple → State
+endOf p h l a = endOfStep p h (l .l1) (l .l2) (l .l3) a
 
 -- "RK4 forward to points 5, 6, 7, 8, then backward with -h to 3, 2, 1, 0"; each step starts from point i
 unfoldable pub movedOn : ℕ → Body → Triple → Body
-movedOn i b x = withPlaces b (placed (i + 1) (stepEnd (gridPoint b i) (b .plan .h) (b .slopes) x) (b .places))
+movedOn i b a = withPlaces b (placed (i + 1) (endOf (gridPoint b i) (b .plan .h) (b .slopes) a) (b .places))
 
 unfoldable pub movedBack : ℕ → Body → Triple → Body
-movedBack i b x = withPlaces b (placed (i - 1) (stepEnd (gridPoint b i) (neg (b .plan .h)) (b .slopes) x) (b .places))
+movedBack i b a = withPlaces b (placed (i - 1) (endOf (gridPoint b i) (neg (b .plan .h)) (b .slopes) a) (b .places))
 
 -- ---- a startup pass: all points corrected from the same a, then "the eight accelerations afresh, in order"
 unfoldable pub passBegun : Body → Body
-passBegun b = withWidest (withPlaces b (passPlaces (b .plan .h) (b .places) (b .a))) (calm (b .a))
+passBegun b = withWidest (withPlaces b (passPlaces (b .plan .h) (b .places) (b .a))) (calmAt (b .a))
 
 unfoldable pub renewed : ℕ → Body → Triple → Body
-renewed i b x = withWidest (withA b (set (b .a) i x)) (widened (b .widest) (at (b .a) i) x)
+renewed i b a = withWidest (withA b (set (b .a) i a)) (widened (b .widest) (at (b .a) i) a)
 
 unfoldable pub passMade : Body → Body
 passMade b = withPasses b (b .«startup_iters» + 1)
@@ -107,12 +107,8 @@ tried b x = withTrial b (record { state = x; fixed = b .trial .fixed })
 
 -- "commit: slide, s = s + a_new, S = S', t = t + h, one step"
 unfoldable pub committed : Body → State → Triple → Body
-committed b y x = withTrack (withA b (slide (b .a) x)) (trackOn (b .plan) (b .track) y x)
-
--- the newest point is k, with the acceleration x
-unfoldable pub arrived : Body → Track → Triple → Body
-arrived b k x = withTrack (withA b (slide (b .a) x)) k
+committed b y a = withTrack (withA b (slid (b .a) a)) (trackOn (b .plan) (b .track) y a)
 
 -- the end of the tail: "RK4 over rem"
-unfoldable pub tailEnd : Body → Triple → State
-tailEnd b x = stepEnd (tailPoint (b .track)) (remains (b .plan) (b .track .t)) (b .slopes) x
+unfoldable pub endOfTail : Body → Triple → State
+endOfTail b a = endOf (tailFrom (b .track)) (leftAt (b .plan) (b .track .t)) (b .slopes) a

@@ -1,7 +1,6 @@
--- 01, "Numbered answers" (limits and defaults) and "Startup" (the step): what a start makes of its arguments.
+-- 01, "Numbered answers" (defaults) and "Startup" (the step): what a start makes of its arguments.
 use Prim.Native.Nat.{ℕ, _^_}
-use mathlib.Core.Bool.{Bool, false, _&&_, _||_, cond}
-use lib.Dec.{leb}
+use mathlib.Core.Bool.{Bool, false, _||_, cond}
 use lib.IntN.{pos}
 use lib.Ieee.{Float, binary64, round, neg, sub, mul, div, lt, le, eq, ofInt}
 use Rattle.triple.specs.Arithmetic.{nought}
@@ -23,21 +22,17 @@ defaultSettings =
       «max_corrector_iters» = 2;
       «max_startup_iters» = 12;
       «max_steps» = 1_000_000;
-      samples = false;
+      samples = 0;
     }
 
--- "Limits: max_startup_iters and max_corrector_iters 0 to 100, max_steps 0 to 1,000,000."
-unfoldable pub withinLimits : Settings → Bool
-withinLimits s = leb (s .«max_startup_iters») 100 && leb (s .«max_corrector_iters») 100 && leb (s .«max_steps») 1_000_000
-
 -- "dir = 1 if tf >= t0, else -1 (a NaN gives -1)"
-unfoldable pub direction : Float → Float → Float
-direction t0 tf = cond (le t0 tf) (ofInt binary64 (pos 1)) (neg (ofInt binary64 (pos 1)))
+unfoldable pub directionOf : Float → Float → Float
+directionOf t0 tf = cond (le t0 tf) (ofInt binary64 (pos 1)) (neg (ofInt binary64 (pos 1)))
 
 -- "h = abs(setting)·dir"
 unfoldable pub planOf : Settings → Float → Float → Plan
-planOf s t0 tf = record { settings = s; t0 = t0; tf = tf; h = mul binary64 (absolute (s .h)) (direction t0 tf) }
+planOf s t0 tf = record { settings = s; t0 = t0; tf = tf; h = mul binary64 (absolute (s .h)) (directionOf t0 tf) }
 
 -- 1: "h is zero, or abs(span/h) is below 8"
-unfoldable pub tooNear : Plan → Bool
-tooNear p = eq (p .h) nought || lt (absolute (div binary64 (sub binary64 (p .tf) (p .t0)) (p .h))) (ofInt binary64 (pos 8))
+unfoldable pub isTooNear : Plan → Bool
+isTooNear p = eq (p .h) nought || lt (absolute (div binary64 (sub binary64 (p .tf) (p .t0)) (p .h))) (ofInt binary64 (pos 8))

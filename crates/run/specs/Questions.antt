@@ -4,7 +4,7 @@ use lib.Ieee.{Float, neg}
 use Rattle.triple.specs.declared.Point.{Point}
 use Rattle.triple.specs.Arithmetic.{nought, zeros}
 use Rattle.triple.specs.Nine.{at}
-use Rattle.rk4.specs.Rk4.{second, third, fourth}
+use Rattle.rk4.specs.Rk4.{secondQuestion, thirdQuestion, fourthQuestion}
 use Rattle.startup.specs.Points.{pointAt}
 use Rattle.run.specs.declared.Body.{Body}
 use Rattle.run.specs.declared.Slopes.{Slopes}
@@ -12,14 +12,14 @@ use Rattle.run.specs.declared.waiting.Stage.{Stage}
 use Rattle.run.specs.declared.waiting.Stage.the-variants.{First, Second, Third, Fourth}
 use Rattle.run.specs.declared.waiting.Waiting.{Waiting}
 use Rattle.run.specs.declared.waiting.Waiting.the-variants.{Epoch, Forward, Backward, Survey, Pass, Step, Tail, TailSample, Ended, Unknown}
-use Rattle.run.specs.Formulas.{remains, stepPoint, tailPoint, finalPoint}
+use Rattle.run.specs.Formulas.{leftAt, stepPoint, tailFrom, finalPoint}
 
 -- the four questions of an RK4 step from p over h
 unfoldable pub stageQuestion : Stage → Point → Float → Slopes → Point
 stageQuestion First p h l = p
-stageQuestion Second p h l = second p h (l .l1)
-stageQuestion Third p h l = third p h (l .l1) (l .l2)
-stageQuestion Fourth p h l = fourth p h (l .l2) (l .l3)
+stageQuestion Second p h l = secondQuestion p h (l .l1)
+stageQuestion Third p h l = thirdQuestion p h (l .l1) (l .l2)
+stageQuestion Fourth p h l = fourthQuestion p h (l .l2) (l .l3)
 
 -- point i of the startup
 unfoldable pub gridPoint : Body → ℕ → Point
@@ -37,17 +37,17 @@ endPoint b = stepPoint (b .plan) (b .track) (b .trial .state)
 unfoldable pub lastPoint : Body → Point
 lastPoint b = finalPoint (b .plan) (b .trial .state)
 
-unfoldable pub nowhere : Point
-nowhere = record { t = nought; r = zeros; v = zeros }
+unfoldable pub noPoint : Point
+noPoint = record { t = nought; r = zeros; v = zeros }
 
-unfoldable pub question : Waiting → Body → Point
-question Epoch b = epochPoint b
-question (Forward i s) b = stageQuestion s (gridPoint b i) (b .plan .h) (b .slopes)
-question (Backward i s) b = stageQuestion s (gridPoint b i) (neg (b .plan .h)) (b .slopes)
-question (Survey i) b = gridPoint b i
-question (Pass i) b = gridPoint b i
-question (Step c) b = endPoint b
-question (Tail s) b = stageQuestion s (tailPoint (b .track)) (remains (b .plan) (b .track .t)) (b .slopes)
-question TailSample b = lastPoint b
-question Ended b = nowhere
-question Unknown b = nowhere
+unfoldable pub questionAt : Waiting → Body → Point
+questionAt Epoch b = epochPoint b
+questionAt (Forward i s) b = stageQuestion s (gridPoint b i) (b .plan .h) (b .slopes)
+questionAt (Backward i s) b = stageQuestion s (gridPoint b i) (neg (b .plan .h)) (b .slopes)
+questionAt (Survey i) b = gridPoint b i
+questionAt (Pass i) b = gridPoint b i
+questionAt (Step c) b = endPoint b
+questionAt (Tail s) b = stageQuestion s (tailFrom (b .track)) (leftAt (b .plan) (b .track .t)) (b .slopes)
+questionAt TailSample b = lastPoint b
+questionAt Ended b = noPoint
+questionAt Unknown b = noPoint

@@ -1,7 +1,7 @@
 // The plan of a run, and the tests that its steps turn on.
 ghost use mathlib.Core.Path.{_≡_};
-ghost use Rattle.run.specs.Plan.{direction, planOf, tooNear};
-ghost use Rattle.run.specs.Formulas.{remains, goesOn, isShort, still, rests, tailPoint};
+ghost use Rattle.run.specs.Plan.{directionOf, planOf, isTooNear};
+ghost use Rattle.run.specs.Formulas.{leftAt, isDue, isTail, isStill, isAtRest, tailFrom};
 use crate::Plan;
 use crate::Settings;
 use crate::Track;
@@ -11,7 +11,7 @@ use triple::Triple;
 
 // 1 forward, -1 backward and where a time is NaN.
 fn direction_of(t0: f64, tf: f64) -> f64
-    ensures { λ d. ⌜ d ≡ direction t0 tf ⌝ }
+    ensures { λ d. ⌜ d ≡ directionOf t0 tf ⌝ }
 {
     if tf >= t0 { 1.0 } else { -1.0 }
 }
@@ -30,7 +30,7 @@ pub fn plan_of(settings: Settings, t0: f64, tf: f64) -> Plan
 
 // Whether refusal 1 is due: no step at all, or a span of fewer than eight.
 pub fn is_too_near(p: Plan) -> bool
-    ensures { λ b. ⌜ b ≡ tooNear p ⌝ }
+    ensures { λ b. ⌜ b ≡ isTooNear p ⌝ }
 {
     if p.h == 0.0 {
         return true;
@@ -40,35 +40,35 @@ pub fn is_too_near(p: Plan) -> bool
 
 // The time left at t, with its sign.
 pub fn left_at(p: Plan, t: f64) -> f64
-    ensures { λ x. ⌜ x ≡ remains p t ⌝ }
+    ensures { λ x. ⌜ x ≡ leftAt p t ⌝ }
 {
     p.tf - t
 }
 
 // Whether a further step is due at t.
 pub fn is_due(p: Plan, t: f64) -> bool
-    ensures { λ b. ⌜ b ≡ goesOn p t ⌝ }
+    ensures { λ b. ⌜ b ≡ isDue p t ⌝ }
 {
     (p.tf - t) * direction_of(p.t0, p.tf) > 0.0
 }
 
 // Whether what is left at t is short of a step, so that a tail is due.
 pub fn is_tail(p: Plan, t: f64) -> bool
-    ensures { λ b. ⌜ b ≡ isShort p t ⌝ }
+    ensures { λ b. ⌜ b ≡ isTail p t ⌝ }
 {
     triple::abs(left_at(p, t)) - triple::abs(p.h) < -1.0e-12 * triple::abs(p.h)
 }
 
 // Whether a correction from `before` to `after` is below the tolerance, beside the new size.
 fn is_still(tol: f64, before: Triple, after: Triple) -> bool
-    ensures { λ b. ⌜ b ≡ still tol before after ⌝ }
+    ensures { λ b. ⌜ b ≡ isStill tol before after ⌝ }
 {
     after.minus(before).size() / (after.size() + 1.0e-30) < tol
 }
 
 // Whether the passes of a step stop: both position and velocity are still.
 pub fn is_at_rest(tol: f64, before: State, after: State) -> bool
-    ensures { λ b. ⌜ b ≡ rests tol before after ⌝ }
+    ensures { λ b. ⌜ b ≡ isAtRest tol before after ⌝ }
 {
     if is_still(tol, before.r, after.r) {
         return is_still(tol, before.v, after.v);
@@ -78,7 +78,7 @@ pub fn is_at_rest(tol: f64, before: State, after: State) -> bool
 
 // Where the tail starts: the newest point.
 pub fn tail_from(track: Track) -> Point
-    ensures { λ p. ⌜ p ≡ tailPoint track ⌝ }
+    ensures { λ p. ⌜ p ≡ tailFrom track ⌝ }
 {
     let r = track.state.r;
     let v = track.state.v;

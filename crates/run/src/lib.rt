@@ -11,6 +11,7 @@ pub mod formulas;
 pub mod limits;
 pub mod moves;
 pub mod questions;
+pub mod samples;
 pub mod sound;
 pub mod waiting;
 
@@ -23,7 +24,8 @@ pub struct Settings {
     pub max_corrector_iters: u64,
     pub max_startup_iters: u64,
     pub max_steps: u64,
-    pub samples: bool,
+    // 0 or 1; any other number is over its limit, so that no byte that a caller lends leans on its care.
+    pub samples: u8,
 }
 
 // Where the run waits, and the mathematics.

@@ -1,6 +1,6 @@
 // What an answer makes of the mathematics: from a body to the next, each by value.
 ghost use mathlib.Core.Path.{_≡_};
-ghost use Rattle.run.specs.Moves.{freshBody, slopesWith, kept, stepEnd, surveyed, passBegun, renewed, launched, predicted, tried, tailEnd};
+ghost use Rattle.run.specs.Moves.{freshBody, withSlope, kept, endOf, surveyed, passBegun, renewed, launched, predicted, tried, endOfTail};
 use crate::Body;
 use crate::Plan;
 use crate::Slopes;
@@ -60,7 +60,7 @@ pub fn fresh_body(plan: Plan, r0: Triple, v0: Triple) -> Body
 }
 
 fn with_slope(s: Stage, l: Slopes, a: Triple) -> Slopes
-    ensures { λ n. ⌜ n ≡ slopesWith s l a ⌝ }
+    ensures { λ n. ⌜ n ≡ withSlope s l a ⌝ }
 {
     let l1 = l.l1;
     let l2 = l.l2;
@@ -85,7 +85,7 @@ pub fn keep(s: Stage, b: Body, a: Triple) -> Body
 
 // Where the open RK4 step from p over h ends, with its fourth acceleration.
 pub fn end_of(p: Point, h: f64, l: Slopes, a: Triple) -> State
-    ensures { λ x. ⌜ x ≡ stepEnd p h l a ⌝ }
+    ensures { λ x. ⌜ x ≡ endOf p h l a ⌝ }
 {
     rk4::end_of_step(p, h, l.l1, l.l2, l.l3, a)
 }
@@ -172,7 +172,7 @@ pub fn try_state(b: Body, x: State) -> Body
 
 // Where the tail ends, with its fourth acceleration.
 pub fn end_of_tail(b: Body, a: Triple) -> State
-    ensures { λ x. ⌜ x ≡ tailEnd b a ⌝ }
+    ensures { λ x. ⌜ x ≡ endOfTail b a ⌝ }
 {
     let rem = formulas::left_at(b.plan, b.track.t);
     end_of(formulas::tail_from(b.track), rem, b.slopes, a)

@@ -1,6 +1,6 @@
 // What each waiting point asks.
 ghost use mathlib.Core.Path.{_≡_};
-ghost use Rattle.run.specs.Questions.{stageQuestion, gridPoint, epochPoint, endPoint, lastPoint, nowhere, question};
+ghost use Rattle.run.specs.Questions.{stageQuestion, gridPoint, epochPoint, endPoint, lastPoint, noPoint, questionAt};
 use crate::Body;
 use crate::Slopes;
 use crate::formulas;
@@ -62,7 +62,7 @@ fn last_point(b: Body) -> Point
 
 // No question is open there.
 fn no_point() -> Point
-    ensures { λ q. ⌜ q ≡ nowhere ⌝ }
+    ensures { λ q. ⌜ q ≡ noPoint ⌝ }
 {
     let zero = Triple::zero();
     Point {
@@ -73,7 +73,7 @@ fn no_point() -> Point
 }
 
 pub fn question_at(w: Waiting, b: Body) -> Point
-    ensures { λ q. ⌜ q ≡ question w b ⌝ }
+    ensures { λ q. ⌜ q ≡ questionAt w b ⌝ }
 {
     match w {
         Waiting::Epoch => epoch_point(b),

@@ -1,16 +1,22 @@
 // Whether a question of a run is open: neither ended nor made up (01, answer 7).
 ghost use mathlib.Core.Path.{_≡_};
-ghost use Prim.Native.Nat.{_≤_};
-ghost use Rattle.run.specs.Counting.{idle, rank, forwardCounts, backwardCounts, pointCounts, passCounts, startedUp, stepCounts, countsOf, soundOf, Small};
+ghost use Prim.Native.Nat.{_<_};
+ghost use Rattle.run.specs.Sound.{isIdle, rankOf, forwardCounts, backwardCounts, pointCounts, passCounts, isStartedUp, stepCounts, bodyCounts, hasCounts, isSound, isOpenStep};
+ghost use Rattle.run.specs.Limits.{ample};
+ghost use Rattle.run.specs.Ready.{Small};
 use crate::Body;
+use crate::Mark;
 use crate::Run;
+use crate::Settings;
 use crate::limits;
 use crate::waiting;
 use crate::waiting::Stage;
 use crate::waiting::Waiting;
 
+const NUMBERING: u64 = 65536;
+
 pub fn is_sound(run: Run) -> bool
-    ensures { λ r. ⌜ r ≡ soundOf run ⌝ }
+    ensures { λ r. ⌜ r ≡ isSound run ⌝ }
 {
     let mark = run.mark;
     let b = run.body;
@@ -18,7 +24,7 @@ pub fn is_sound(run: Run) -> bool
     if !limits::are_within_limits(b.plan.settings) {
         return false;
     }
-    if (count.number as u64) != count.evals % 65536 {
+    if (count.number as u64) != count.evals % NUMBERING {
         return false;
     }
     let w = waiting::waits_at(mark);
@@ -27,7 +33,7 @@ pub fn is_sound(run: Run) -> bool
 
 // No startup pass is made, and no step.
 fn is_idle(b: Body) -> bool
-    ensures { λ r. ⌜ r ≡ idle b ⌝ }
+    ensures { λ r. ⌜ r ≡ isIdle b ⌝ }
 {
     if b.startup_iters != 0 {
         return false;
@@ -61,14 +67,14 @@ fn backward_counts(i: u8, s: Stage, e: u64) -> bool
 
 // How many of the eight points other than the epoch come before point i.
 fn rank_of(i: u8) -> u64
-    ensures { λ n. ⌜ n ≡ rank i ⌝ }
+    ensures { λ n. ⌜ n ≡ rankOf i ⌝ }
 {
     if i < 4 { i as u64 } else { (i as u64) - 1 }
 }
 
 // e answers, of which `before` came before the points were asked.
 fn point_counts(i: u8, before: u64, e: u64) -> bool
-    requires { ⌜ before ≤ 10000 ⌝ }
+    requires { ⌜ before < ample ⌝ }
     ensures { λ r. ⌜ r ≡ pointCounts i before e ⌝ }
 {
     if i > 8 {
@@ -81,7 +87,7 @@ fn point_counts(i: u8, before: u64, e: u64) -> bool
 }
 
 fn pass_counts(i: u8, e: u64, b: Body) -> bool
-    requires { ⌜ Small b ⌝ }
+    requires { ⌜ Small (b .plan .settings) ⌝ }
     ensures { λ r. ⌜ r ≡ passCounts i e b ⌝ }
 {
     if b.startup_iters >= b.plan.settings.max_startup_iters {
@@ -93,44 +99,73 @@ fn pass_counts(i: u8, e: u64, b: Body) -> bool
     point_counts(i, 41 + 8 * b.startup_iters, e)
 }
 
-// The startup passes lie within their bounds.
-fn is_started_up(b: Body) -> bool
-    ensures { λ r. ⌜ r ≡ startedUp b ⌝ }
+// Whether so many startup passes can have been made, of at most `most`.
+fn is_started_up(passes: u64, most: u64) -> bool
+    ensures { λ r. ⌜ r ≡ isStartedUp passes most ⌝ }
 {
-    if b.startup_iters > b.plan.settings.max_startup_iters {
+    if passes > most {
         return false;
     }
-    if b.startup_iters == 0 {
-        return b.plan.settings.max_startup_iters == 0;
+    if passes == 0 {
+        return most == 0;
     }
     true
 }
 
-// e answers at a step, of which k belong to the open step.
-fn step_counts(k: u64, e: u64, b: Body) -> bool
-    requires { ⌜ Small b × (k ≤ 1000) ⌝ }
-    ensures { λ r. ⌜ r ≡ stepCounts k e b ⌝ }
+// e answers after n steps, of which k belong to the open step.
+fn step_counts(k: u64, e: u64, s: Settings, passes: u64, n: u64) -> bool
+    requires { ⌜ Small s × (k < ample) ⌝ }
+    ensures { λ r. ⌜ r ≡ stepCounts k e s passes n ⌝ }
 {
-    let n = b.track.steps;
-    if !is_started_up(b) {
+    if !is_started_up(passes, s.max_startup_iters) {
         return false;
     }
     if n < 4 {
         return false;
     }
-    if n >= b.plan.settings.max_steps {
+    if n >= s.max_steps {
         return false;
     }
-    let base = 41 + 8 * b.startup_iters + k;
+    let base = 41 + 8 * passes + k;
     if e < base + (n - 4) {
         return false;
     }
-    e <= base + (n - 4) * (1 + b.plan.settings.max_corrector_iters)
+    e <= base + (n - 4) * (1 + s.max_corrector_iters)
+}
+
+fn body_counts(k: u64, e: u64, b: Body) -> bool
+    requires { ⌜ Small (b .plan .settings) × (k < ample) ⌝ }
+    ensures { λ r. ⌜ r ≡ bodyCounts k e b ⌝ }
+{
+    step_counts(k, e, b.plan.settings, b.startup_iters, b.track.steps)
+}
+
+// Whether a sound run waits at a step's end, by the parts that this takes: what `is_sound` finds there, without the rest of the run.
+pub fn is_open_step(m: Mark, s: Settings, passes: u64, n: u64) -> bool
+    ensures { λ r. ⌜ r ≡ isOpenStep m s passes n ⌝ }
+{
+    if m.at != 6 {
+        return false;
+    }
+    if m.stage > 3 {
+        return false;
+    }
+    if !limits::are_within_limits(s) {
+        return false;
+    }
+    let e = m.count.evals;
+    if (m.count.number as u64) != e % NUMBERING {
+        return false;
+    }
+    if (m.index as u64) > s.max_corrector_iters {
+        return false;
+    }
+    step_counts(m.index as u64, e, s, passes, n)
 }
 
 fn has_counts(w: Waiting, e: u64, b: Body) -> bool
-    requires { ⌜ Small b ⌝ }
-    ensures { λ r. ⌜ r ≡ countsOf w e b ⌝ }
+    requires { ⌜ Small (b .plan .settings) ⌝ }
+    ensures { λ r. ⌜ r ≡ hasCounts w e b ⌝ }
 {
     match w {
         Waiting::Epoch => if e == 0 { is_idle(b) } else { false },
@@ -154,11 +189,11 @@ fn has_counts(w: Waiting, e: u64, b: Body) -> bool
             if (c as u64) > b.plan.settings.max_corrector_iters {
                 return false;
             }
-            step_counts(c as u64, e, b)
+            body_counts(c as u64, e, b)
         }
-        Waiting::Tail(s) => step_counts(waiting::stage_number(s) as u64, e, b),
-        Waiting::TailSample => if b.plan.settings.samples {
-            step_counts(4, e, b)
+        Waiting::Tail(s) => body_counts(waiting::stage_number(s) as u64, e, b),
+        Waiting::TailSample => if limits::wants_samples(b.plan.settings) {
+            body_counts(4, e, b)
         } else {
             false
         },

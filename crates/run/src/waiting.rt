@@ -1,6 +1,6 @@
 // The waiting point: plain numbers in the run, one of these cases everywhere else.
 ghost use mathlib.Core.Path.{_≡_};
-ghost use Rattle.run.specs.Waiting.{stageNo, atOf, indexOf, stageOf, markOf, stageFrom, waitingOf};
+ghost use Rattle.run.specs.Waiting.{stageNumber, isLast, stageAfter, atNumber, indexNumber, stageAt, markAt, stageFrom, waitsAt};
 use crate::Count;
 use crate::Mark;
 
@@ -36,7 +36,7 @@ pub enum Waiting {
 }
 
 pub fn stage_number(s: Stage) -> u8
-    ensures { λ n. ⌜ n ≡ stageNo s ⌝ }
+    ensures { λ n. ⌜ n ≡ stageNumber s ⌝ }
 {
     match s {
         Stage::First => 0,
@@ -46,8 +46,31 @@ pub fn stage_number(s: Stage) -> u8
     }
 }
 
+// Whether its answer ends the RK4 step.
+pub fn is_last(s: Stage) -> bool
+    ensures { λ b. ⌜ b ≡ isLast s ⌝ }
+{
+    match s {
+        Stage::First => false,
+        Stage::Second => false,
+        Stage::Third => false,
+        Stage::Fourth => true,
+    }
+}
+
+pub fn stage_after(s: Stage) -> Stage
+    ensures { λ n. ⌜ n ≡ stageAfter s ⌝ }
+{
+    match s {
+        Stage::First => Stage::Second,
+        Stage::Second => Stage::Third,
+        Stage::Third => Stage::Fourth,
+        Stage::Fourth => Stage::Fourth,
+    }
+}
+
 fn at_number(w: Waiting) -> u8
-    ensures { λ n. ⌜ n ≡ atOf w ⌝ }
+    ensures { λ n. ⌜ n ≡ atNumber w ⌝ }
 {
     match w {
         Waiting::Ended => 0,
@@ -64,7 +87,7 @@ fn at_number(w: Waiting) -> u8
 }
 
 fn index_number(w: Waiting) -> u8
-    ensures { λ n. ⌜ n ≡ indexOf w ⌝ }
+    ensures { λ n. ⌜ n ≡ indexNumber w ⌝ }
 {
     match w {
         Waiting::Forward(i, _) => i,
@@ -81,7 +104,7 @@ fn index_number(w: Waiting) -> u8
 }
 
 fn stage_at(w: Waiting) -> u8
-    ensures { λ n. ⌜ n ≡ stageOf w ⌝ }
+    ensures { λ n. ⌜ n ≡ stageAt w ⌝ }
 {
     match w {
         Waiting::Forward(_, s) => stage_number(s),
@@ -99,7 +122,7 @@ fn stage_at(w: Waiting) -> u8
 
 // A waiting point in numbers, with the counts of its question.
 pub fn mark_at(w: Waiting, count: Count) -> Mark
-    ensures { λ m. ⌜ m ≡ markOf w count ⌝ }
+    ensures { λ m. ⌜ m ≡ markAt w count ⌝ }
 {
     let at = at_number(w);
     let index = index_number(w);
@@ -126,7 +149,7 @@ fn stage_from(n: u8) -> Stage
 
 // The waiting point that a mark's numbers mean.
 pub fn waits_at(m: Mark) -> Waiting
-    ensures { λ w. ⌜ w ≡ waitingOf m ⌝ }
+    ensures { λ w. ⌜ w ≡ waitsAt m ⌝ }
 {
     let at = m.at;
     let index = m.index;

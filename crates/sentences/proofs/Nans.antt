@@ -5,10 +5,10 @@ use lib.Ieee.{Float, nan, inf, fin, binary64, add, sub, mul, div, lt}
 use Rattle.triple.specs.declared.Triple.{Triple}
 use Rattle.triple.specs.declared.Sample.{Sample}
 use Rattle.triple.specs.Arithmetic.{plus, times}
-use Rattle.quintic.specs.Quintic.{positionOn, velocityOn, quinticAt}
+use Rattle.quintic.specs.Quintic.{positionOn, velocityOn, quinticHermite}
 use Rattle.dense.specs.Table.{nans}
 use Rattle.dense.specs.Intervals.{endsOf}
-use Rattle.dense.specs.Interpolation.{outside, valueAt}
+use Rattle.dense.specs.Interpolation.{isOutside, valueAt}
 use Rattle.sentences.specs.Sentences.{NanNotRefused, NanGivesNan}
 
 pub none-above : (x : Float) → lt x nan ≡ false
@@ -22,7 +22,7 @@ unfolding lt
 none-below x = refl
 
 pub nan-not-refused : NanNotRefused
-unfolding outside
+unfolding isOutside
 nan-not-refused l = rw (none-below (endsOf l .lower), none-above (endsOf l .upper))
 
 mul-nan : (x : Float) → mul binary64 x nan ≡ nan
@@ -45,8 +45,8 @@ plus-nans : (a : Triple) → plus a nans ≡ nans
 unfolding plus
 plus-nans a = rw (add-nan (a .x), add-nan (a .y), add-nan (a .z))
 
-curve-nan : (from to : Sample) → quinticAt from to nan ≡ record { r = nans; v = nans }
-unfolding quinticAt positionOn velocityOn sub add div mul
+curve-nan : (from to : Sample) → quinticHermite from to nan ≡ record { r = nans; v = nans }
+unfolding quinticHermite positionOn velocityOn sub add div mul
 curve-nan from to = simp (mul-nan, times-nan, plus-nans)
 
 pub nan-gives-nan : NanGivesNan

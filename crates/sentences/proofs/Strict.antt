@@ -7,7 +7,7 @@ use native.Mathlib.Nat.{le-refl}
 use lib.Dec.{ltb, eqb}
 use lib.Ieee.{Float, nan, inf, fin, up, down, below, level, lt, eq, le}
 use borrow.Author.Tests.{le-ltb, ltb-true, eqb-true, eq-eqb, ne-eqb}
-use Rattle.dense.specs.Intervals.{reached, short}
+use Rattle.dense.specs.Intervals.{reached, isShort}
 use Rattle.sentences.proofs.Nans.{none-above}
 
 clash : {A : Type 0} → false ≡ true → A
@@ -85,31 +85,31 @@ own-too x (fin false m e) h = alike (m * up e * down e)
 
 -- ---- the same, in the table's direction
 module _ (f : Bool) (x y : Float) where
-  pub short-reaches : short f x y ≡ true → reached f x y ≡ true
-  unfolding short reached
+  pub short-reaches : isShort f x y ≡ true → reached f x y ≡ true
+  unfolding isShort reached
   short-reaches h = by f h
     where
-      by : (b : Bool) → short b x y ≡ true → reached b x y ≡ true
+      by : (b : Bool) → isShort b x y ≡ true → reached b x y ≡ true
       by true h = lt-le x y h
       by false h = lt-le y x h
 
-  pub short-fails : short f x y ≡ true → reached f y x ≡ false
-  unfolding short reached
+  pub short-fails : isShort f x y ≡ true → reached f y x ≡ false
+  unfolding isShort reached
   short-fails h = by f h
     where
-      by : (b : Bool) → short b x y ≡ true → reached b y x ≡ false
+      by : (b : Bool) → isShort b x y ≡ true → reached b y x ≡ false
       by true h = apart x y h
       by false h = apart y x h
 
-  pub short-own : short f x y ≡ true → reached f x x ≡ true
-  unfolding short reached
+  pub short-own : isShort f x y ≡ true → reached f x x ≡ true
+  unfolding isShort reached
   short-own h = by f h
     where
-      by : (b : Bool) → short b x y ≡ true → reached b x x ≡ true
+      by : (b : Bool) → isShort b x y ≡ true → reached b x x ≡ true
       by true h = own x y h
       by false h = own-too y x h
 
-pub not-short : (f : Bool) (x : Float) → short f x x ≡ false
-unfolding short
+pub not-short : (f : Bool) (x : Float) → isShort f x x ≡ false
+unfolding isShort
 not-short true x = same x
 not-short false x = same x

@@ -6,9 +6,9 @@ use mathlib.Core.List.{List}
 use lib.ListN.{length, getD}
 use lib.Ieee.{Float, nan}
 use Rattle.dense.specs.declared.Told.the-variants.{Written}
-use Rattle.dense.specs.Table.{count, nans, timeOf}
-use Rattle.dense.specs.Intervals.{forward, endsOf, short, intervalOf, walkedTo}
-use Rattle.dense.specs.Interpolation.{width, judged, outside, valueAt, interpolated, batched}
+use Rattle.dense.specs.Table.{countOf, nans, timeOf}
+use Rattle.dense.specs.Intervals.{isForward, endsOf, isShort, intervalOf, walkedTo}
+use Rattle.dense.specs.Interpolation.{width, judged, isOutside, valueAt, interpolated, batched}
 
 -- "output past 6 numbers a time is untouched" (Places)
 abbrev pub PastUntouched : Type 0
@@ -25,7 +25,7 @@ RoomForAll =
 
 -- "A NaN time is not refused and gives NaN" (Nans)
 abbrev pub NanNotRefused : Type 0
-NanNotRefused = (l : List Float) → outside (endsOf l) nan ≡ false
+NanNotRefused = (l : List Float) → isOutside (endsOf l) nan ≡ false
 
 abbrev pub NanGivesNan : Type 0
 NanGivesNan = (l : List Float) (k : ℕ) → valueAt l k nan ≡ record { r = nans; v = nans }
@@ -33,9 +33,9 @@ NanGivesNan = (l : List Float) (k : ℕ) → valueAt l k nan ≡ record { r = na
 -- "At an inner sample time the first uses the interval that starts there, a fresh batch the one that ends there" (Inner).
 -- Sample n stands apart: every time before it is strictly short of its own, and its own of the next; as where the times are in strict order.
 pub record Apart (l : List Float) (n : ℕ) : Type 0 where
-  pub behind : (i : ℕ) → i < n → short (forward l) (timeOf l i) (timeOf l n) ≡ true
-  pub ahead : short (forward l) (timeOf l n) (timeOf l (n + 1)) ≡ true
+  pub behind : (i : ℕ) → i < n → isShort (isForward l) (timeOf l i) (timeOf l n) ≡ true
+  pub ahead : isShort (isForward l) (timeOf l n) (timeOf l (n + 1)) ≡ true
 
 abbrev pub AtInnerSample : Type 0
 AtInnerSample =
-    (l : List Float) (n : ℕ) → Apart l n → 0 < n → n + 1 < count l → (intervalOf l (timeOf l n) ≡ n) × (walkedTo l (timeOf l n) 0 + 1 ≡ n)
+    (l : List Float) (n : ℕ) → Apart l n → 0 < n → n + 1 < countOf l → (intervalOf l (timeOf l n) ≡ n) × (walkedTo l (timeOf l n) 0 + 1 ≡ n)

@@ -1,7 +1,7 @@
 // A startup pass: every point but the epoch corrected from the same accelerations, and the test that ends the passes.
 ghost use mathlib.Core.Path.{_≡_};
 ghost use mathlib.Core.List.{[], _∷_};
-ghost use Rattle.startup.specs.Passes.{fourOn, fourBack, passPlaces, lastSums, widened, calm, settled};
+ghost use Rattle.startup.specs.Passes.{pointsOn, pointsBack, passPlaces, lastSums, widened, calmAt, isSettled};
 use crate::Places;
 use crate::Widest;
 use sums::Sums;
@@ -18,7 +18,7 @@ pub struct Four {
 
 // Points 5 to 8, each by its own sums.
 fn points_on(h: f64, epoch: Sums, a: [Triple; 9]) -> Four
-    ensures { λ f. ⌜ f ≡ fourOn h epoch a ⌝ }
+    ensures { λ f. ⌜ f ≡ pointsOn h epoch a ⌝ }
 {
     let s5 = epoch.on(a[5]);
     let s6 = s5.on(a[6]);
@@ -38,7 +38,7 @@ fn points_on(h: f64, epoch: Sums, a: [Triple; 9]) -> Four
 
 // Points 3 to 0, each by its own sums.
 fn points_back(h: f64, epoch: Sums, a: [Triple; 9]) -> Four
-    ensures { λ f. ⌜ f ≡ fourBack h epoch a ⌝ }
+    ensures { λ f. ⌜ f ≡ pointsBack h epoch a ⌝ }
 {
     let s3 = epoch.back(a[4]);
     let s2 = s3.back(a[3]);
@@ -129,7 +129,7 @@ pub fn widen(w: Widest, before: Triple, after: Triple) -> Widest
 
 // What a pass starts from: the epoch, whose acceleration stays.
 pub fn calm_at(a: [Triple; 9]) -> Widest
-    ensures { λ r. ⌜ r ≡ calm a ⌝ }
+    ensures { λ r. ⌜ r ≡ calmAt a ⌝ }
 {
     let w = Widest {
         delta: 0.0,
@@ -140,7 +140,7 @@ pub fn calm_at(a: [Triple; 9]) -> Widest
 
 // Whether the largest change over the largest acceleration is below the tolerance.
 pub fn is_settled(tol: f64, w: Widest) -> bool
-    ensures { λ r. ⌜ r ≡ settled tol w ⌝ }
+    ensures { λ r. ⌜ r ≡ isSettled tol w ⌝ }
 {
     w.delta / w.mag < tol
 }

@@ -3,7 +3,7 @@
 use triple::State;
 use triple::Triple;
 ghost use mathlib.Core.Path.{_≡_};
-ghost use Rattle.sums.specs.Weighted.{weigh, weighNext, sumA, sumB, fixedA, fixedB};
+ghost use Rattle.sums.specs.Weighted.{weighted, weightedNext, sumA, sumB, fixedA, fixedB};
 ghost use Rattle.sums.specs.Sums.{epochSums, onSums, backSums, pointOf, predictedState, fixedOf, correctedState};
 
 // The first sum s and the second, S, at one point.
@@ -22,7 +22,7 @@ pub struct Fixed {
 
 // The sum over k = 0 to 8 of a[k]·row[k].
 fn weighted(a: [Triple; 9], row: [f64; 9]) -> Triple
-    ensures { λ r. ⌜ r ≡ weigh a row 9 ⌝ }
+    ensures { λ r. ⌜ r ≡ weighted a row 9 ⌝ }
 {
     let mut sum = Triple::zero();
     let mut k = 0usize;
@@ -35,7 +35,7 @@ fn weighted(a: [Triple; 9], row: [f64; 9]) -> Triple
 
 // The sum over k = 0 to 7 of a[k+1]·row[k].
 fn weighted_next(a: [Triple; 9], row: [f64; 9]) -> Triple
-    ensures { λ r. ⌜ r ≡ weighNext a row 8 ⌝ }
+    ensures { λ r. ⌜ r ≡ weightedNext a row 8 ⌝ }
 {
     let mut sum = Triple::zero();
     let mut k = 0usize;

@@ -1,3 +1,4 @@
 pub mod Arithmetic
 pub mod Size
 pub mod Nine
+pub mod Sampled

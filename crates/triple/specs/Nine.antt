@@ -14,5 +14,5 @@ unfoldable pub nineZeros : List Triple
 nineZeros = zeros ∷ zeros ∷ zeros ∷ zeros ∷ zeros ∷ zeros ∷ zeros ∷ zeros ∷ zeros ∷ []
 
 -- the oldest goes, t comes in as the newest
-unfoldable pub slide : List Triple → Triple → List Triple
-slide l t = at l 1 ∷ at l 2 ∷ at l 3 ∷ at l 4 ∷ at l 5 ∷ at l 6 ∷ at l 7 ∷ at l 8 ∷ t ∷ []
+unfoldable pub slid : List Triple → Triple → List Triple
+slid l t = at l 1 ∷ at l 2 ∷ at l 3 ∷ at l 4 ∷ at l 5 ∷ at l 6 ∷ at l 7 ∷ at l 8 ∷ t ∷ []

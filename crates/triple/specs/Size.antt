@@ -9,11 +9,11 @@ absolute (inf s) = inf false
 absolute (fin s m e) = fin false m e
 
 -- a, unless b is greater
-unfoldable pub larger : Float → Float → Float
-larger a b = cond (lt a b) b a
+unfoldable pub largerOf : Float → Float → Float
+largerOf a b = cond (lt a b) b a
 
 unfoldable pub sizeOf : Triple → Float
 sizeOf a =
     cond (isNan (a .x) || isNan (a .y) || isNan (a .z))
     nan
-    (larger (larger (absolute (a .x)) (absolute (a .y))) (absolute (a .z)))
+    (largerOf (largerOf (absolute (a .x)) (absolute (a .y))) (absolute (a .z)))

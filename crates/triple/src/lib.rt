@@ -2,7 +2,7 @@
 // Operations go component by component, each product and each sum rounded once (01, "What is carried over").
 ghost use mathlib.Core.Path.{_≡_};
 ghost use Rattle.triple.specs.Arithmetic.{zeros, plus, minus, times, over};
-ghost use Rattle.triple.specs.Size.{absolute, larger, sizeOf};
+ghost use Rattle.triple.specs.Size.{absolute, largerOf, sizeOf};
 
 pub mod nine;
 
@@ -122,7 +122,7 @@ pub fn abs(x: f64) -> f64
 
 // a, unless b is greater: a NaN in b is passed over.
 pub fn larger_of(a: f64, b: f64) -> f64
-    ensures { λ r. ⌜ r ≡ larger a b ⌝ }
+    ensures { λ r. ⌜ r ≡ largerOf a b ⌝ }
 {
     if a < b { b } else { a }
 }

@@ -2,7 +2,7 @@
 use crate::Triple;
 ghost use mathlib.Core.Path.{_≡_};
 ghost use lib.ListN.{set};
-ghost use Rattle.triple.specs.Nine.{at, slide, nineZeros};
+ghost use Rattle.triple.specs.Nine.{at, slid, nineZeros};
 
 // Nine times the zero triple.
 pub fn zeros() -> [Triple; 9]
@@ -41,7 +41,7 @@ pub fn replaced(l: [Triple; 9], i: usize, t: Triple) -> [Triple; 9]
 
 // The oldest goes, t comes in as the newest.
 pub fn slid(l: [Triple; 9], t: Triple) -> [Triple; 9]
-    ensures { λ r. ⌜ r ≡ slide l t ⌝ }
+    ensures { λ r. ⌜ r ≡ slid l t ⌝ }
 {
     [l[1], l[2], l[3], l[4], l[5], l[6], l[7], l[8], t]
 }

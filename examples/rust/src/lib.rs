@@ -1,8 +1,9 @@
+// SPDX-License-Identifier: MIT OR Apache-2.0
 //! An orbit 400 km up, carried forward for a day in one-minute steps, and read off between the steps. The same orbit as examples/c,
-//! over the safe crate; each operation of the force in the same order, so that both give the same bits.
+//! over the safe crate; each operation of the force in the same order, so that both give the same bits. Units are km and seconds.
 mod print;
 
-use gauss_jackson::{numbers_for, Refusal, Reply, Run, Settings, State, Triple, SAMPLE_NUMBERS};
+use gauss_jackson::{numbers_for, Finished, Refusal, Run, Sample, Settings, State, Triple};
 
 const STEPS: usize = 1440;
 const ROWS: usize = 24;
@@ -11,15 +12,6 @@ const MU: f64 = 398600.4418;
 const RADIUS: f64 = 6778.137;
 /// Cosine and sine of an inclination of 51.6 degrees.
 const INCLINATION: (f64, f64) = (0.6211477802783103, 0.7836934573258398);
-
-/// The finished state, with its counts.
-struct End {
-    t: f64,
-    at: State,
-    evals: u64,
-    steps: u64,
-    startup_iters: u64,
-}
 
 /// A row of the table: a time, with position and velocity.
 struct Row {
@@ -38,23 +30,19 @@ fn force(r: Triple) -> Triple {
     Triple { x: (-MU * r.x) / cube, y: (-MU * r.y) / cube, z: (-MU * r.z) / cube }
 }
 
-fn carry_forward(samples: &mut [f64]) -> Result<End, Refusal> {
+/// Fills the samples, one for each step and one for the start, and tells the finished state. The library has no force of its own: it
+/// asks, here by `drive`, for one after another; an app that answers at its own pace uses `Run::answer`.
+fn carry_forward(samples: &mut [f64]) -> Result<Finished, Refusal> {
     let speed = (MU / RADIUS).sqrt();
     let r0 = Triple { x: RADIUS, y: 0.0, z: 0.0 };
     let v0 = Triple { x: 0.0, y: speed * INCLINATION.0, z: speed * INCLINATION.1 };
+    // The default step is 60. Samples are off unless asked for, and the slice is then left alone.
     let settings = Settings { samples: true, ..Settings::default() };
-    let (mut run, mut reply) = Run::start(settings, 0.0, DAY, r0, v0)?;
-    loop {
-        match reply {
-            Reply::Ask { number, r, .. } => reply = run.answer(number, force(r), samples)?,
-            Reply::Done { t, r, v, evals, steps, startup_iters } => {
-                return Ok(End { t, at: State { r, v }, evals, steps, startup_iters });
-            }
-        }
-    }
+    let (mut run, _) = Run::start(settings, 0.0, DAY, r0, v0)?;
+    run.drive(|_t, r, _v| force(r), samples)
 }
 
-/// Once an hour, and half a minute past: between two samples.
+/// Once an hour, and half a minute past: between two samples. The times are in the order of the flight, as a batch must have them.
 #[cfg(feature = "dense")]
 fn read_off(samples: &[f64]) -> Result<Vec<Row>, Refusal> {
     let times: Vec<f64> = (0..ROWS).map(|row| 3600.0 * row as f64 + 30.0).collect();
@@ -65,32 +53,52 @@ fn read_off(samples: &[f64]) -> Result<Vec<Row>, Refusal> {
 /// Once an hour, at a sample: for a library without interpolation.
 #[cfg(not(feature = "dense"))]
 fn read_off(samples: &[f64]) -> Result<Vec<Row>, Refusal> {
-    let hourly = samples.chunks(SAMPLE_NUMBERS).step_by(60).take(ROWS);
-    let three = |s: &[f64]| Triple { x: s[0], y: s[1], z: s[2] };
-    Ok(hourly.map(|s| Row { t: s[0], at: State { r: three(&s[1..4]), v: three(&s[4..7]) } }).collect())
+    let hourly = Sample::view(samples).iter().step_by(60).take(ROWS);
+    Ok(hourly.map(|s| Row { t: s.t, at: State { r: s.r, v: s.v } }).collect())
 }
 
-/// Prints the table, or everything by its bits.
-pub fn tell(bits: bool) -> Result<(), Refusal> {
+/// What is printed.
+enum Form {
+    Table,
+    Csv,
+    Bits,
+}
+
+fn tell(form: Form) -> Result<(), Refusal> {
     let mut samples = vec![0.0; numbers_for(STEPS)];
+    // A refusal has ended the run, and goes to the caller with its text; past this line the run has finished.
     let end = carry_forward(&mut samples)?;
-    let rows = read_off(&samples)?;
-    if bits {
-        print::bits(&end, &samples, &rows);
-    } else {
-        print::table(&end, &rows);
+    match form {
+        Form::Table => print::table(&end, &read_off(&samples)?),
+        Form::Csv => print::csv(Sample::view(&samples)),
+        Form::Bits => print::bits(&end, &samples, &read_off(&samples)?),
     }
     Ok(())
 }
 
-/// For a C main: 0, or 1 after a refusal whose text went to standard error.
+/// The form that the words of the command line name.
+fn form() -> Option<Form> {
+    let words: Vec<String> = std::env::args().skip(1).collect();
+    match words.iter().map(String::as_str).collect::<Vec<_>>()[..] {
+        [] => Some(Form::Table),
+        ["--csv"] => Some(Form::Csv),
+        ["--bits"] => Some(Form::Bits),
+        _ => None,
+    }
+}
+
+/// The whole program, for a main of Rust or of C: 0, or 1 after a refusal and 2 for other words; both say so on standard error.
 #[no_mangle]
-pub extern "C" fn orbit_tell(bits: bool) -> i32 {
-    match tell(bits) {
-        Ok(()) => 0,
-        Err(refusal) => {
+pub extern "C" fn orbit_main() -> i32 {
+    match form().map(tell) {
+        Some(Ok(())) => 0,
+        Some(Err(refusal)) => {
             eprintln!("{refusal}");
             1
+        }
+        None => {
+            eprintln!("usage: orbit [--csv | --bits]");
+            2
         }
     }
 }

@@ -1,13 +1,6 @@
-//! orbit [--bits]: on x86-64, by `cargo run`. Elsewhere start.c takes its place.
-use std::process::ExitCode;
+// SPDX-License-Identifier: MIT OR Apache-2.0
+//! orbit [--csv | --bits]: on x86-64, by `cargo run`. Elsewhere start.c takes its place.
 
-fn main() -> ExitCode {
-    let bits = std::env::args().nth(1).as_deref() == Some("--bits");
-    match orbit::tell(bits) {
-        Ok(()) => ExitCode::SUCCESS,
-        Err(refusal) => {
-            eprintln!("{refusal}");
-            ExitCode::FAILURE
-        }
-    }
+fn main() {
+    std::process::exit(orbit::orbit_main())
 }

@@ -1,6 +1,7 @@
-//! The table for people, and the bits for comparison.
-use crate::{distance, End, Row, SAMPLE_NUMBERS};
-use gauss_jackson::State;
+// SPDX-License-Identifier: MIT OR Apache-2.0
+//! The table for people, the rows for other programs, and the bits for comparison.
+use crate::{distance, Row};
+use gauss_jackson::{Finished, Sample, State, Triple, SAMPLE_NUMBERS};
 
 const EARTH: f64 = 6378.137;
 
@@ -12,32 +13,41 @@ fn row(t: f64, at: &State) {
     println!("  {:8.4}", distance(at.r) - EARTH);
 }
 
-pub(crate) fn table(end: &End, rows: &[Row]) {
+pub(crate) fn table(end: &Finished, rows: &[Row]) {
     let how = if cfg!(feature = "dense") { "between steps" } else { "at steps" };
     println!("An orbit 400 km up, {} steps of a minute; read off {how}.\n", end.steps);
     println!("    time       x km       y km       z km    vx km/s   vy km/s   vz km/s    height");
     for r in rows {
         row(r.t, &r.at);
     }
-    row(end.t, &end.at);
+    row(end.t, &State { r: end.r, v: end.v });
     let (t, evals, passes) = (end.t, end.evals, end.startup_iters);
     println!("\nFinished at {t:.0} s: {} steps, {evals} answers, {passes} startup passes.", end.steps);
+}
+
+/// Each number by the fewest digits that are read back as the same bits.
+pub(crate) fn csv(samples: &[Sample]) {
+    println!("t_s,x_km,y_km,z_km,vx_km_s,vy_km_s,vz_km_s,ax_km_s2,ay_km_s2,az_km_s2");
+    let three = |a: Triple| format!("{},{},{}", a.x, a.y, a.z);
+    for s in samples {
+        println!("{},{},{},{}", s.t, three(s.r), three(s.v), three(s.a));
+    }
 }
 
 fn hex(numbers: &[f64]) -> String {
     numbers.iter().map(|x| format!(" {:016x}", x.to_bits())).collect()
 }
 
-fn six(at: &State) -> [f64; 6] {
-    [at.r.x, at.r.y, at.r.z, at.v.x, at.v.y, at.v.z]
+fn six(r: Triple, v: Triple) -> String {
+    hex(&[r.x, r.y, r.z, v.x, v.y, v.z])
 }
 
-pub(crate) fn bits(end: &End, samples: &[f64], rows: &[Row]) {
+pub(crate) fn bits(end: &Finished, samples: &[f64], rows: &[Row]) {
     for (n, sample) in samples.chunks(SAMPLE_NUMBERS).enumerate() {
         println!("sample {n}{}", hex(sample));
     }
-    println!("done{}{} {} {} {}", hex(&[end.t]), hex(&six(&end.at)), end.evals, end.steps, end.startup_iters);
+    println!("done{}{} {} {} {}", hex(&[end.t]), six(end.r, end.v), end.evals, end.steps, end.startup_iters);
     for r in rows.iter().filter(|_| cfg!(feature = "dense")) {
-        println!("interp{}", hex(&six(&r.at)));
+        println!("interp{}", six(r.at.r, r.at.v));
     }
 }

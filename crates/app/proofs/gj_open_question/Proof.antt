@@ -42,10 +42,10 @@ use Rattle.app.proofs.Reply as Reply′
 use Rattle.app.proofs.Reply.Laws as Reply″
 use Rattle.run.proofs.Run as Run′
 use Rattle.run.proofs.Run.Laws as Run″
-use Rattle.app.proofs.open_in as g
-use Rattle.app.proofs.open_in.Symbol as g-def
-use Rattle.app.proofs.open_in.Symbol.{name as #app·open-in}
-use Rattle.app.proofs.open_in.Met as g-thm
+use Rattle.app.proofs.replies.open_in as g
+use Rattle.app.proofs.replies.open_in.Symbol as g-def
+use Rattle.app.proofs.replies.open_in.Symbol.{name as #app·replies·open-in}
+use Rattle.app.proofs.replies.open_in.Met as g-thm
 use Rattle.app.proofs.gj_open_question.Key.{name as #app·gj-open-question}
 use Rattle.app.proofs.gj_open_question as f
 use Rattle.app.proofs.gj_open_question.Statement as stated
@@ -69,7 +69,7 @@ walked-fn = record {
   params = 1;
   locals = local τ-Reply valueLocal ∷ local (tyRef (named 0) imm (tyNamed (Run′.struct .name, []))) valueLocal ∷ local τ-Run valueLocal ∷ [];
   body = (seq (assign (place 2 []) (rvOpd (copy (place 1 (deref τ-Run ∷ [])))))
-      (seq (call #app·open-in (copy (place 2 []) ∷ []) (place 0 []))
+      (seq (call #app·replies·open-in (copy (place 2 []) ∷ []) (place 0 []))
       return));
 }
 
@@ -112,7 +112,7 @@ module _ {M : Type 1} (𝓤 : URA M) (H : Heap 𝓤) (A : Atoms 𝓤) (W : Given
         qed W (‵ (flft κ-v-run q-v-run) ∷ ‵ (fres γ-v-run (Run′.the-row .coded .code v-run)) ∷ ‵ (fshr-bor κ-v-run (λ p. partAt Run′.the-row p v-run b-v-run o-v-run)) ∷ []) ∵
         suffices ! _ (ends-at 𝓤 H A f.ended stayed (f.clauses 𝓤 H A at-mem run-of) W (((κ-v-run, tt), (q-v-run, tt), tt, x, at), tt) (LL.val Reply′.the-type Reply″.the-laws r) r (tt, tt) (tt, tt)) $ says ! (e) $ nothing ! $ move ! (1 ∷ 0 ∷ []) $ join ! $ frame ! $ nothing ! $ move ! (1 ∷ 2 ∷ 0 ∷ []) $ feqI ! (List Val) ((vptr b-v-run o-v-run) ∷ []) ((vptr b-v-run o-v-run) ∷ []) refl $ fjoin3 ! $ fjoin ! $ owned ! Reply′.the-row (Is Reply′.the-row) (LL.makes Reply′.the-type Reply″.the-plain 𝓤 H A) r _ is $ move ! (1 ∷ 0 ∷ []) $ done !
 
-    module _ (C : Calls 𝓤 H) (Λ : Loops 𝓤 H) (fm : FmC 𝓤 H (W .laws) C) (known : Meeting 𝓤 (C #app·open-in) (Callee 𝓤 H A at-mem run-of)) where
+    module _ (C : Calls 𝓤 H) (Λ : Loops 𝓤 H) (fm : FmC 𝓤 H (W .laws) C) (known : Meeting 𝓤 (C #app·replies·open-in) (Callee 𝓤 H A at-mem run-of)) where
       walk : ent 𝓤 (onEntry 𝓤 H A f.signature (κ-v-run, tt) (q-v-run, tt) x at) (WpFn 𝓤 H C Λ walked-fn ((vptr b-v-run o-v-run) ∷ []) Post)
       walk =
           qed W ((‵ (flft κ-v-run q-v-run) ⊛ ‵ ftrue) ∷ ‵ (owns (ShrRef (named 0) κ-v-run Run′.the-row ∷ []) x at) ∷ []) ∵ enter ! C Λ walked-fn ((vptr b-v-run o-v-run) ∷ []) _ $
@@ -131,7 +131,7 @@ module _ {M : Type 1} (𝓤 : URA M) (H : Heap 𝓤) (A : Atoms 𝓤) (W : Given
           returns ! (look ! 12 refl) $ forget ! 8 refl $ forget ! 10 refl $ forget ! 12 refl $ move ! (12 ∷ 13 ∷ []) $ free1 ! $ move ! (10 ∷ 11 ∷ []) $ free1 ! $ move ! (8 ∷ 9 ∷ []) $ free1 ! $ free0 ! $ keep ! (3 ∷ 5 ∷ 4 ∷ []) $ by ! (exits r e (subst (Is Reply′.the-row r) (LL.tells Reply′.the-type Reply″.the-laws r (w ∷ []) is) is))))))))))))
 
 module _ {M : Type 1} (𝓤 : URA M) (H : Heap 𝓤) (A : Atoms 𝓤) (W : Given 𝓤 H A) (mem : Memory → SProp 𝓤) (run-of : Routine → Fun 𝓤) where
-  walks : (C : Calls 𝓤 H) (Λ : Loops 𝓤 H) → FmC 𝓤 H (W .laws) C → Meeting 𝓤 (C #app·open-in) (Callee 𝓤 H A mem run-of) → Walks 𝓤 H A f.ended stayed (WpFn 𝓤 H C Λ walked-fn) (f.clauses 𝓤 H A mem run-of)
+  walks : (C : Calls 𝓤 H) (Λ : Loops 𝓤 H) → FmC 𝓤 H (W .laws) C → Meeting 𝓤 (C #app·replies·open-in) (Callee 𝓤 H A mem run-of) → Walks 𝓤 H A f.ended stayed (WpFn 𝓤 H C Λ walked-fn) (f.clauses 𝓤 H A mem run-of)
   walks C Λ fm known = walked 𝓤 H A f.ended stayed (f.clauses 𝓤 H A mem run-of) (WpFn 𝓤 H C Λ walked-fn)
       (λ κs. (ptr-vals, tt)) (λ κs. (shr-tells (named 0) (κs .0) Run′.the-row, tt))
       (λ κs qs bounds a _ are. via 𝓤 _ (fst∗ 𝓤 _ (emp 𝓤)) (walk 𝓤 H A W mem run-of (κs .0) (qs .0) (a .0 .ptr .0) (a .0 .ptr .1) (a .0 .name) (a .0 .now) C Λ fm known))
@@ -139,7 +139,7 @@ module _ {M : Type 1} (𝓤 : URA M) (H : Heap 𝓤) (A : Atoms 𝓤) (W : Given
   all-go : AllGo 𝓤 H A W 1 (f.signature .params) (f.ended .kept) stayed
   all-go = (goes-none-ref 𝓤 H A W 1 (0 ∷ []) tt (plain (λ _. Run′.the-row)) yes, tt)
 
-meets : {M : Type 1} (𝓤 : URA M) (H : Heap 𝓤) (A : Atoms 𝓤) → Given 𝓤 H A → (mem : Memory → SProp 𝓤) (run-of : Routine → Fun 𝓤) (𝓣 : Tables 𝓤 H) → Meeting 𝓤 (𝓣 .C #app·open-in) (Callee 𝓤 H A mem run-of)
+meets : {M : Type 1} (𝓤 : URA M) (H : Heap 𝓤) (A : Atoms 𝓤) → Given 𝓤 H A → (mem : Memory → SProp 𝓤) (run-of : Routine → Fun 𝓤) (𝓣 : Tables 𝓤 H) → Meeting 𝓤 (𝓣 .C #app·replies·open-in) (Callee 𝓤 H A mem run-of)
     → Meets 𝓤 H A f.signature (WpFn 𝓤 H (𝓣 .C) (𝓣 .Λ) walked-fn) (f.spec 𝓤 H A mem run-of)
 meets 𝓤 H A W mem run-of 𝓣 known =
     walk-meets 𝓤 H A f.ended stayed W (all-go 𝓤 H A W mem run-of) (f.clauses 𝓤 H A mem run-of)
@@ -151,4 +151,4 @@ gj-open-question-spec 𝓤 H 𝓜 𝓖 𝓡 =
     entered 𝓤 H (tripleOf 𝓤 H (𝓖 .A) f.signature (f.spec 𝓤 H (𝓖 .A) (𝓜 .mem) (𝓡 .run)))
     (tables 𝓤 H 𝓜 𝓡 code.env .C) (tables 𝓤 H 𝓜 𝓡 code.env .Λ) #app·gj-open-question code.function (code.unfolded 𝓤 H 𝓜 𝓡)
     (subst (λ (F : Fn). Meets 𝓤 H (𝓖 .A) f.signature (WpFn 𝓤 H (tables 𝓤 H 𝓜 𝓡 code.env .C) (tables 𝓤 H 𝓜 𝓡 code.env .Λ) F) (f.spec 𝓤 H (𝓖 .A) (𝓜 .mem) (𝓡 .run))) (sym function-is) (meets 𝓤 H (𝓖 .A) (givenOf 𝓤 H 𝓜 𝓖) (𝓜 .mem) (𝓡 .run) (tablesOf 𝓤 H 𝓜 (tables 𝓤 H 𝓜 𝓡 code.env))
-    (cited 𝓤 H (Callee 𝓤 H (𝓖 .A) (𝓜 .mem) (𝓡 .run)) 𝓜 𝓡 code.env #app·open-in g-def.routine code.calls-app·open-in (g-thm.met 𝓤 H 𝓜 𝓖 𝓡))))
+    (cited 𝓤 H (Callee 𝓤 H (𝓖 .A) (𝓜 .mem) (𝓡 .run)) 𝓜 𝓡 code.env #app·replies·open-in g-def.routine code.calls-app·replies·open-in (g-thm.met 𝓤 H 𝓜 𝓖 𝓡))))

@@ -55,10 +55,10 @@ use Rattle.run.proofs.Settings as Settings′
 use Rattle.run.proofs.Settings.Laws as Settings″
 use Rattle.triple.proofs.Triple as Triple′
 use Rattle.triple.proofs.Triple.Laws as Triple″
-use Rattle.app.proofs.started_by as g
-use Rattle.app.proofs.started_by.Symbol as g-def
-use Rattle.app.proofs.started_by.Symbol.{name as #app·started-by}
-use Rattle.app.proofs.started_by.Met as g-thm
+use Rattle.app.proofs.replies.started_by as g
+use Rattle.app.proofs.replies.started_by.Symbol as g-def
+use Rattle.app.proofs.replies.started_by.Symbol.{name as #app·replies·started-by}
+use Rattle.app.proofs.replies.started_by.Met as g-thm
 use Rattle.app.proofs.gj_start.Key.{name as #app·gj-start}
 use Rattle.app.proofs.gj_start as f
 use Rattle.app.proofs.gj_start.Statement as stated
@@ -90,7 +90,7 @@ walked-fn = record {
   outlives = [];
   params = 6;
   locals = local τ-Reply valueLocal ∷ local (tyRef (named 0) mut (tyNamed (Run′.struct .name, []))) valueLocal ∷ local τ-Settings valueLocal ∷ local (tyFloat binary64) valueLocal ∷ local (tyFloat binary64) valueLocal ∷ local τ-Triple valueLocal ∷ local τ-Triple valueLocal ∷ local τ-Replied valueLocal ∷ [];
-  body = (seq (call #app·started-by (copy (place 2 []) ∷ copy (place 3 []) ∷ copy (place 4 []) ∷ copy (place 5 []) ∷ copy (place 6 []) ∷ []) (place 7 []))
+  body = (seq (call #app·replies·started-by (copy (place 2 []) ∷ copy (place 3 []) ∷ copy (place 4 []) ∷ copy (place 5 []) ∷ copy (place 6 []) ∷ []) (place 7 []))
       (seq (assign (place 1 (deref τ-Run ∷ [])) (rvOpd (copy (place 7 (field 0 ∷ [])))))
       (seq (assign (place 0 []) (rvOpd (copy (place 7 (field 1 ∷ [])))))
       return)));
@@ -142,7 +142,7 @@ module _ {M : Type 1} (𝓤 : URA M) (H : Heap 𝓤) (A : Atoms 𝓤) (W : Given
       qed W (‵ (flft κ-v-run q-v-run) ∷ ‵ (fobs γ-v-run (Run′.the-row .coded .code (r .run))) ∷ ‵ (fbor κ-v-run (Body (mem Run′.the-row) b-v-run o-v-run γ-v-run)) ∷ []) ∵
       suffices ! _ (ends-at 𝓤 H A f.ended stayed (f.clauses 𝓤 H A at-mem run-of) W (((κ-v-run, tt), (q-v-run, tt), tt, x, at), tt) (LL.val Reply′.the-type Reply″.the-laws (r .reply)) (r .reply) (r .run, (tt, (tt, (tt, (tt, (tt, tt)))))) (tt, (tt, (tt, (tt, (tt, (tt, tt))))))) $ says ! (ap (λ (d : Replied). d .reply) e, ap (λ (d : Replied). d .run) e) $ nothing ! $ move ! (1 ∷ 0 ∷ []) $ join ! $ frame ! $ nothing ! $ owned ! Triple′.the-row (Is Triple′.the-row) (LL.makes Triple′.the-type Triple″.the-plain 𝓤 H A) v-v0 _ v-v0-is $ fjoin ! $ owned ! Triple′.the-row (Is Triple′.the-row) (LL.makes Triple′.the-type Triple″.the-plain 𝓤 H A) v-r0 _ v-r0-is $ fjoin ! $ owned ! f64 (Is f64) (float-makes 𝓤 H A W binary64) v-tf _ v-tf-is $ fjoin ! $ owned ! f64 (Is f64) (float-makes 𝓤 H A W binary64) v-t0 _ v-t0-is $ fjoin ! $ owned ! Settings′.the-row (Is Settings′.the-row) (LL.makes Settings′.the-type Settings″.the-plain 𝓤 H A) v-settings _ v-settings-is $ fjoin ! $ move ! (1 ∷ 2 ∷ 0 ∷ []) $ feqI ! (List Val) ((vptr b-v-run o-v-run) ∷ []) ((vptr b-v-run o-v-run) ∷ []) refl $ fjoin3 ! $ fjoin ! $ owned ! Reply′.the-row (Is Reply′.the-row) (LL.makes Reply′.the-type Reply″.the-plain 𝓤 H A) (r .reply) _ is $ move ! (1 ∷ 0 ∷ []) $ done !
 
-  module _ (C : Calls 𝓤 H) (Λ : Loops 𝓤 H) (fm : FmC 𝓤 H (W .laws) C) (known : Meeting 𝓤 (C #app·started-by) (Callee 𝓤 H A at-mem run-of)) where
+  module _ (C : Calls 𝓤 H) (Λ : Loops 𝓤 H) (fm : FmC 𝓤 H (W .laws) C) (known : Meeting 𝓤 (C #app·replies·started-by) (Callee 𝓤 H A at-mem run-of)) where
     walk : ent 𝓤 (onEntry 𝓤 H A f.signature (κ-v-run, tt) (q-v-run, tt) x at) (WpFn 𝓤 H C Λ walked-fn ((vptr b-v-run o-v-run) ∷ (LL.val Settings′.the-type Settings″.the-laws v-settings) ∷ (vfloat binary64 v-t0) ∷ (vfloat binary64 v-tf) ∷ (LL.val Triple′.the-type Triple″.the-laws v-r0) ∷ (LL.val Triple′.the-type Triple″.the-laws v-v0) ∷ []) Post)
     walk =
         qed W ((‵ (flft κ-v-run q-v-run) ⊛ ‵ ftrue) ∷ ‵ (owns (MutRef (named 0) κ-v-run Run′.the-row ∷ Settings′.the-row ∷ f64 ∷ f64 ∷ Triple′.the-row ∷ Triple′.the-row ∷ []) x at) ∷ []) ∵ enter ! C Λ walked-fn ((vptr b-v-run o-v-run) ∷ (LL.val Settings′.the-type Settings″.the-laws v-settings) ∷ (vfloat binary64 v-t0) ∷ (vfloat binary64 v-tf) ∷ (LL.val Triple′.the-type Triple″.the-laws v-r0) ∷ (LL.val Triple′.the-type Triple″.the-laws v-v0) ∷ []) _ $
@@ -163,7 +163,7 @@ module _ {M : Type 1} (𝓤 : URA M) (H : Heap 𝓤) (A : Atoms 𝓤) (W : Given
         returns ! (look ! 28 refl) $ forget ! 14 refl $ forget ! 16 refl $ forget ! 18 refl $ forget ! 20 refl $ forget ! 22 refl $ forget ! 24 refl $ forget ! 26 refl $ forget ! 28 refl $ move ! (28 ∷ 29 ∷ []) $ free1 ! $ move ! (26 ∷ 27 ∷ []) $ free1 ! $ move ! (24 ∷ 25 ∷ []) $ free1 ! $ move ! (22 ∷ 23 ∷ []) $ free1 ! $ move ! (20 ∷ 21 ∷ []) $ free1 ! $ move ! (18 ∷ 19 ∷ []) $ free1 ! $ move ! (16 ∷ 17 ∷ []) $ free1 ! $ move ! (14 ∷ 15 ∷ []) $ free1 ! $ free0 ! $ keep ! (2 ∷ 0 ∷ 1 ∷ []) $ by ! (exits r e (result-is r _ is)))))))))))))))))
 
 module _ {M : Type 1} (𝓤 : URA M) (H : Heap 𝓤) (A : Atoms 𝓤) (W : Given 𝓤 H A) (mem : Memory → SProp 𝓤) (run-of : Routine → Fun 𝓤) where
-  walks : (C : Calls 𝓤 H) (Λ : Loops 𝓤 H) → FmC 𝓤 H (W .laws) C → Meeting 𝓤 (C #app·started-by) (Callee 𝓤 H A mem run-of) → Walks 𝓤 H A f.ended stayed (WpFn 𝓤 H C Λ walked-fn) (f.clauses 𝓤 H A mem run-of)
+  walks : (C : Calls 𝓤 H) (Λ : Loops 𝓤 H) → FmC 𝓤 H (W .laws) C → Meeting 𝓤 (C #app·replies·started-by) (Callee 𝓤 H A mem run-of) → Walks 𝓤 H A f.ended stayed (WpFn 𝓤 H C Λ walked-fn) (f.clauses 𝓤 H A mem run-of)
   walks C Λ fm known = walked 𝓤 H A f.ended stayed (f.clauses 𝓤 H A mem run-of) (WpFn 𝓤 H C Λ walked-fn)
       (λ κs. (ptr-vals, (LL.vals Settings′.the-type Settings″.the-laws, (float-vals binary64, (float-vals binary64, (LL.vals Triple′.the-type Triple″.the-laws, (LL.vals Triple′.the-type Triple″.the-laws, tt))))))) (λ κs. (mut-tells (named 0) (κs .0) Run′.the-row, (LL.tells Settings′.the-type Settings″.the-laws, (float-tells binary64, (float-tells binary64, (LL.tells Triple′.the-type Triple″.the-laws, (LL.tells Triple′.the-type Triple″.the-laws, tt)))))))
       (λ κs qs bounds a _ are. via 𝓤 _ (fst∗ 𝓤 _ (emp 𝓤)) (walk 𝓤 H A W mem run-of (κs .0) (qs .0) (a .0 .ptr .0) (a .0 .ptr .1) (a .0 .name) (a .0 .now) (a .1 .0) (a .1 .1 .0) (a .1 .1 .1 .0) (a .1 .1 .1 .1 .0) (a .1 .1 .1 .1 .1 .0) (are .1 .0) (are .1 .1 .0) (are .1 .1 .1 .0) (are .1 .1 .1 .1 .0) (are .1 .1 .1 .1 .1 .0) C Λ fm known))
@@ -171,7 +171,7 @@ module _ {M : Type 1} (𝓤 : URA M) (H : Heap 𝓤) (A : Atoms 𝓤) (W : Given
   all-go : AllGo 𝓤 H A W 1 (f.signature .params) (f.ended .kept) stayed
   all-go = (goes-ref 𝓤 H A W 1 0 tt (plain (λ _. Run′.the-row)), (goes-none 𝓤 H A W 1 (λ _. Settings′.the-row) yes (λ κs x f. refl), (goes-none 𝓤 H A W 1 (λ _. f64) yes (λ κs x f. refl), (goes-none 𝓤 H A W 1 (λ _. f64) yes (λ κs x f. refl), (goes-none 𝓤 H A W 1 (λ _. Triple′.the-row) yes (λ κs x f. refl), (goes-none 𝓤 H A W 1 (λ _. Triple′.the-row) yes (λ κs x f. refl), tt))))))
 
-meets : {M : Type 1} (𝓤 : URA M) (H : Heap 𝓤) (A : Atoms 𝓤) → Given 𝓤 H A → (mem : Memory → SProp 𝓤) (run-of : Routine → Fun 𝓤) (𝓣 : Tables 𝓤 H) → Meeting 𝓤 (𝓣 .C #app·started-by) (Callee 𝓤 H A mem run-of)
+meets : {M : Type 1} (𝓤 : URA M) (H : Heap 𝓤) (A : Atoms 𝓤) → Given 𝓤 H A → (mem : Memory → SProp 𝓤) (run-of : Routine → Fun 𝓤) (𝓣 : Tables 𝓤 H) → Meeting 𝓤 (𝓣 .C #app·replies·started-by) (Callee 𝓤 H A mem run-of)
     → Meets 𝓤 H A f.signature (WpFn 𝓤 H (𝓣 .C) (𝓣 .Λ) walked-fn) (f.spec 𝓤 H A mem run-of)
 meets 𝓤 H A W mem run-of 𝓣 known =
     walk-meets 𝓤 H A f.ended stayed W (all-go 𝓤 H A W mem run-of) (f.clauses 𝓤 H A mem run-of)
@@ -183,4 +183,4 @@ gj-start-spec 𝓤 H 𝓜 𝓖 𝓡 =
     entered 𝓤 H (tripleOf 𝓤 H (𝓖 .A) f.signature (f.spec 𝓤 H (𝓖 .A) (𝓜 .mem) (𝓡 .run)))
     (tables 𝓤 H 𝓜 𝓡 code.env .C) (tables 𝓤 H 𝓜 𝓡 code.env .Λ) #app·gj-start code.function (code.unfolded 𝓤 H 𝓜 𝓡)
     (subst (λ (F : Fn). Meets 𝓤 H (𝓖 .A) f.signature (WpFn 𝓤 H (tables 𝓤 H 𝓜 𝓡 code.env .C) (tables 𝓤 H 𝓜 𝓡 code.env .Λ) F) (f.spec 𝓤 H (𝓖 .A) (𝓜 .mem) (𝓡 .run))) (sym function-is) (meets 𝓤 H (𝓖 .A) (givenOf 𝓤 H 𝓜 𝓖) (𝓜 .mem) (𝓡 .run) (tablesOf 𝓤 H 𝓜 (tables 𝓤 H 𝓜 𝓡 code.env))
-    (cited 𝓤 H (Callee 𝓤 H (𝓖 .A) (𝓜 .mem) (𝓡 .run)) 𝓜 𝓡 code.env #app·started-by g-def.routine code.calls-app·started-by (g-thm.met 𝓤 H 𝓜 𝓖 𝓡))))
+    (cited 𝓤 H (Callee 𝓤 H (𝓖 .A) (𝓜 .mem) (𝓡 .run)) 𝓜 𝓡 code.env #app·replies·started-by g-def.routine code.calls-app·replies·started-by (g-thm.met 𝓤 H 𝓜 𝓖 𝓡))))

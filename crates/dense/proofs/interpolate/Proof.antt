@@ -11,7 +11,9 @@ returns c = (sym (c .before .told .given .1) ∙ c .before .before .before .judg
 
 returns-2 : tie.Need-returns-2
 unfolding interpolated unless
-returns-2 c = (sym (c .before .before .before .before .before .before .enum-told .given .1) ∙ c .before .before .before .before .before .before .before .before .judge .ensures, rw (← c .before .before .before .before .before .before .before .before .judge .ensures, c .before .before .before .before .before .before .enum-told .given .1, c .before .before .store .ensures, c .before .before .before .before .value .ensures, c .before .before .before .before .before .interval-of .ensures))
+returns-2 c =
+    let past = c .before .before .before .before .before .before in
+    (sym (c .before .before .before .before .before .before .enum-told .given .1) ∙ past .before .before .judge .ensures, rw (← past .before .before .judge .ensures, c .before .before .before .before .before .before .enum-told .given .1, c .before .before .store .ensures, c .before .before .before .before .value .ensures, c .before .before .before .before .before .interval-of .ensures))
 
 pub interpolate-spec : {M : Type 1} → statement M
 interpolate-spec =

@@ -7,7 +7,9 @@ use Rattle.quintic.proofs.position_on.Tie as tie
 
 returns : tie.Need-returns
 unfolding positionOn ofBits
-returns c = simp (c .plus5 .ensures, c .before .times5 .ensures, c .before .before .plus4 .ensures, c .before .before .before .times4 .ensures, c .before .before .before .before .plus3 .ensures, c .before .before .before .before .before .times3 .ensures, c .before .before .before .before .before .before .plus2 .ensures, c .before .before .before .before .before .before .before .times2 .ensures, c .before .before .before .before .before .before .before .before .plus .ensures, c .before .before .before .before .before .before .before .before .before .times .ensures)
+returns c =
+    let past = c .before .before .before .before .before .before in
+    simp (c .plus5 .ensures, c .before .times5 .ensures, c .before .before .plus4 .ensures, c .before .before .before .times4 .ensures, c .before .before .before .before .plus3 .ensures, c .before .before .before .before .before .times3 .ensures, c .before .before .before .before .before .before .plus2 .ensures, past .before .times2 .ensures, past .before .before .plus .ensures, past .before .before .before .times .ensures)
 
 pub position-on-spec : {M : Type 1} → statement M
 position-on-spec =

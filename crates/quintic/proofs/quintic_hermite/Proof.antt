@@ -1,11 +1,11 @@
--- `quintic_hermite` is `quinticAt`, operation by operation.
+-- `quintic_hermite` is `quinticHermite`, operation by operation.
 use borrow.Author.Needs.{needs}
-use Rattle.quintic.specs.Quintic.{quinticAt}
+use Rattle.quintic.specs.Quintic.{quinticHermite}
 use Rattle.quintic.proofs.quintic_hermite.Statement.{statement}
 use Rattle.quintic.proofs.quintic_hermite.Tie as tie
 
 returns : tie.Need-returns
-unfolding quinticAt
+unfolding quinticHermite
 returns c = simp (c .velocity-on .ensures, c .before .position-on .ensures, c .before .before .curve-of .ensures)
 
 pub quintic-hermite-spec : {M : Type 1} → statement M

@@ -7,7 +7,9 @@ use Rattle.quintic.proofs.velocity_on.Tie as tie
 
 returns : tie.Need-returns
 unfolding velocityOn ofBits ofInt
-returns c = simp (c .plus4 .ensures, c .before .times4 .ensures, c .before .before .plus3 .ensures, c .before .before .before .times3 .ensures, c .before .before .before .before .plus2 .ensures, c .before .before .before .before .before .times2 .ensures, c .before .before .before .before .before .before .plus .ensures, c .before .before .before .before .before .before .before .times .ensures)
+returns c =
+    let past = c .before .before .before .before .before .before in
+    simp (c .plus4 .ensures, c .before .times4 .ensures, c .before .before .plus3 .ensures, c .before .before .before .times3 .ensures, c .before .before .before .before .plus2 .ensures, c .before .before .before .before .before .times2 .ensures, c .before .before .before .before .before .before .plus .ensures, past .before .times .ensures)
 
 pub velocity-on-spec : {M : Type 1} → statement M
 velocity-on-spec =

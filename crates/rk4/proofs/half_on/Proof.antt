@@ -1,12 +1,12 @@
--- `half_on` is `midway`, operation by operation.
+-- `half_on` is `halfOn`, operation by operation.
 use lib.Ieee.{ofBits}
 use borrow.Author.Needs.{needs}
-use Rattle.rk4.specs.Rk4.{midway}
+use Rattle.rk4.specs.Rk4.{halfOn}
 use Rattle.rk4.proofs.half_on.Statement.{statement}
 use Rattle.rk4.proofs.half_on.Tie as tie
 
 returns : tie.Need-returns
-unfolding midway ofBits
+unfolding halfOn ofBits
 returns c = simp (c .plus .ensures, c .before .times .ensures)
 
 pub half-on-spec : {M : Type 1} → statement M

@@ -1,12 +1,12 @@
--- `second_question` is `second`, operation by operation.
+-- `second_question` is `secondQuestion`, operation by operation.
 use lib.Ieee.{ofBits}
 use borrow.Author.Needs.{needs}
-use Rattle.rk4.specs.Rk4.{second}
+use Rattle.rk4.specs.Rk4.{secondQuestion}
 use Rattle.rk4.proofs.second_question.Statement.{statement}
 use Rattle.rk4.proofs.second_question.Tie as tie
 
 returns : tie.Need-returns
-unfolding second ofBits
+unfolding secondQuestion ofBits
 returns c = simp (c .before .half-on .ensures, c .before .before .plus .ensures, c .before .before .before .times .ensures)
 
 pub second-question-spec : {M : Type 1} → statement M

@@ -1,11 +1,11 @@
--- `step_on` is `across`, operation by operation.
+-- `step_on` is `stepOn`, operation by operation.
 use borrow.Author.Needs.{needs}
-use Rattle.rk4.specs.Rk4.{across}
+use Rattle.rk4.specs.Rk4.{stepOn}
 use Rattle.rk4.proofs.step_on.Statement.{statement}
 use Rattle.rk4.proofs.step_on.Tie as tie
 
 returns : tie.Need-returns
-unfolding across
+unfolding stepOn
 returns c = simp (c .plus .ensures, c .before .times .ensures)
 
 pub step-on-spec : {M : Type 1} → statement M

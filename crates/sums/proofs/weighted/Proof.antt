@@ -1,25 +1,25 @@
--- `weighted` is `weigh`: the sum so far is that of the terms passed.
+-- `weighted` is `weighted`: the sum so far is that of the terms passed.
 use Prim.Native.Nat.{_≤_, _-_}
 use mathlib.Core.Path.{_≡_}
 use native.Mathlib.Omega.{arith}
 use native.Mathlib.Numerals.{add-one}
 use borrow.Author.Needs.{needs}
-use Rattle.sums.specs.Weighted.{weigh}
+use Rattle.sums.specs.Weighted.{weighted}
 use Rattle.sums.proofs.weighted.Statement.{statement}
 use Rattle.sums.proofs.weighted.Tie as tie
 
 abbrev Inv-loop : tie.InvT-loop
-Inv-loop a row sum₀ k₀ sum k = (k ≤ 9) × (sum ≡ weigh a row k)
+Inv-loop a row sum₀ k₀ sum k = (k ≤ 9) × (sum ≡ weighted a row k)
 
 abbrev μ-loop : tie.MeasureT-loop
 μ-loop a row sum₀ k₀ sum k = 9 - k
 
 loop-holds : tie.Need-loop-holds Inv-loop μ-loop
-unfolding weigh
+unfolding weighted
 loop-holds c = search needs
 
 loop-again : tie.Need-loop-again Inv-loop μ-loop
-unfolding weigh
+unfolding weighted
 loop-again c = (search needs, rw add-one (cc))
 
 returns : tie.Need-returns Inv-loop μ-loop

@@ -1,25 +1,25 @@
--- `weighted_next` is `weighNext`: the sum so far is that of the terms passed.
+-- `weighted_next` is `weightedNext`: the sum so far is that of the terms passed.
 use Prim.Native.Nat.{_≤_, _-_}
 use mathlib.Core.Path.{_≡_}
 use native.Mathlib.Omega.{arith}
 use native.Mathlib.Numerals.{add-one}
 use borrow.Author.Needs.{needs}
-use Rattle.sums.specs.Weighted.{weighNext}
+use Rattle.sums.specs.Weighted.{weightedNext}
 use Rattle.sums.proofs.weighted_next.Statement.{statement}
 use Rattle.sums.proofs.weighted_next.Tie as tie
 
 abbrev Inv-loop : tie.InvT-loop
-Inv-loop a row sum₀ k₀ sum k = (k ≤ 8) × (sum ≡ weighNext a row k)
+Inv-loop a row sum₀ k₀ sum k = (k ≤ 8) × (sum ≡ weightedNext a row k)
 
 abbrev μ-loop : tie.MeasureT-loop
 μ-loop a row sum₀ k₀ sum k = 8 - k
 
 loop-holds : tie.Need-loop-holds Inv-loop μ-loop
-unfolding weighNext
+unfolding weightedNext
 loop-holds c = search needs
 
 loop-again : tie.Need-loop-again Inv-loop μ-loop
-unfolding weighNext
+unfolding weightedNext
 loop-again c = (search needs, rw add-one (cc))
 
 returns : tie.Need-returns Inv-loop μ-loop

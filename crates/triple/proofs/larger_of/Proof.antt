@@ -1,14 +1,14 @@
--- `larger_of` is `larger`.
-use Rattle.triple.specs.Size.{larger}
+-- `larger_of` is `largerOf`.
+use Rattle.triple.specs.Size.{largerOf}
 use Rattle.triple.proofs.larger_of.Statement.{statement}
 use Rattle.triple.proofs.larger_of.Tie as tie
 
 returns : tie.Need-returns
-unfolding larger
+unfolding largerOf
 returns c = simp (c .if1 .taken)
 
 returns-2 : tie.Need-returns-2
-unfolding larger
+unfolding largerOf
 returns-2 c = simp (c .if1 .left)
 
 pub larger-of-spec : {M : Type 1} → statement M

@@ -1,46 +1,13 @@
--- `first_past` is `firstPast`: what is looked for from sample n on is what was looked for from the start.
-use Prim.Native.Nat.{_-_}
-use native.Mathlib.Nat.{sub-zero}
-use mathlib.Core.Path.{_≡_, sym, _∙_}
+-- `first_past` is `firstPast`, by how the table runs.
 use borrow.Author.Needs.{needs}
-use borrow.Author.Tests.{not-true, not-false}
-use Prim.Native.Nat.{_-_}
-use mathlib.Core.Path.{_≡_, sym, _∙_}
-use Rattle.dense.proofs.Turns.{past-on, past-here, past-end}
-use Rattle.dense.specs.Intervals.{firstPast}
 use Rattle.dense.proofs.interval.first_past.Statement.{statement}
 use Rattle.dense.proofs.interval.first_past.Tie as tie
 
-abbrev Inv-loop : tie.InvT-loop
-Inv-loop forward samples t count n₀ n = firstPast forward samples t (count - n) n ≡ firstPast forward samples t count 0
+returns : tie.Need-returns
+returns c = rw (c .before .if1 .taken) (c .first-later .ensures)
 
-abbrev μ-loop : tie.MeasureT-loop
-μ-loop forward samples t count n₀ n = count - n
-
-loop-holds : tie.Need-loop-holds Inv-loop μ-loop
-loop-holds c = rw sub-zero
-
-returns : tie.Need-returns Inv-loop μ-loop
-returns c = rw (← c .before .before .before .before .before .count-of .ensures) (sym (past-here _ _ _ _ _ (c .before .before .before .loop-test .taken) (cc (not-true (c .before .is-reached .result) (c .if1 .taken)))) ∙ c .before .before .before .before .loop .inv)
-
-loop-again : tie.Need-loop-again Inv-loop μ-loop
-loop-again c = sym (past-on _ _ _ _ _ (c .before .before .before .loop-test .taken) (cc (not-false (c .before .is-reached .result) (c .if1 .left)))) ∙ c .before .before .before .before .loop .inv
-
-returns-2 : tie.Need-returns-2 Inv-loop μ-loop
-returns-2 c = rw (← c .before .before .count-of .ensures) (sym (past-end _ _ _ _ _ (c .loop-test .left)) ∙ c .before .loop .inv)
+returns-2 : tie.Need-returns-2
+returns-2 c = rw (c .before .if1 .left) (c .first-earlier .ensures)
 
 pub first-past-spec : {M : Type 1} → statement M
-first-past-spec =
-    tie.close
-    (tie.spec
-    Inv-loop
-    μ-loop
-    (λ c κs. search needs)
-    loop-holds
-    (λ c κs. search needs)
-    (λ c κs. search needs)
-    returns
-    (λ c. search needs)
-    (λ c. search needs)
-    loop-again
-    returns-2)
+first-past-spec = tie.close (tie.spec (λ c κs. search needs) returns (λ c κs. search needs) returns-2)

@@ -1,11 +1,11 @@
--- `is_forward` is `forward`.
+-- `is_forward` is `isForward`.
 use borrow.Author.Needs.{needs}
-use Rattle.dense.specs.Intervals.{forward}
+use Rattle.dense.specs.Intervals.{isForward}
 use Rattle.dense.proofs.interval.is_forward.Statement.{statement}
 use Rattle.dense.proofs.interval.is_forward.Tie as tie
 
 returns : tie.Need-returns
-unfolding forward
+unfolding isForward
 returns c = simp (c .time-of .ensures, c .before .last-time .ensures)
 
 pub is-forward-spec : {M : Type 1} → statement M

@@ -3,7 +3,7 @@ use Prim.Native.Nat.{_-_}
 use mathlib.Core.Path.{_≡_, refl, sym, _∙_}
 use borrow.Author.Needs.{needs}
 use borrow.Author.Tests.{not-true, not-false}
-use Rattle.dense.proofs.Turns.{walk-on, walk-here, walk-end}
+use Rattle.dense.proofs.Loops.{walk-on, walk-here, walk-end}
 use Rattle.dense.specs.Intervals.{walkOn, walkedTo}
 use Rattle.dense.proofs.interval.walk_on.Statement.{statement}
 use Rattle.dense.proofs.interval.walk_on.Tie as tie

@@ -1,11 +1,11 @@
--- `count_of` is `count`.
+-- `count_of` is `countOf`.
 use mathlib.Core.Path.{refl}
-use Rattle.dense.specs.Table.{count}
+use Rattle.dense.specs.Table.{countOf}
 use Rattle.dense.proofs.table.count_of.Statement.{statement}
 use Rattle.dense.proofs.table.count_of.Tie as tie
 
 returns : tie.Need-returns
-unfolding count
+unfolding countOf
 returns c = refl
 
 pub count-of-spec : {M : Type 1} → statement M

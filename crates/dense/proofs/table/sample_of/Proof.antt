@@ -6,7 +6,9 @@ use Rattle.dense.proofs.table.sample_of.Statement.{statement}
 use Rattle.dense.proofs.table.sample_of.Tie as tie
 
 returns : tie.Need-returns
-returns c = sym (sample-here _ _ (c .before .before .before .before .before .before .before .before .before .before .if1 .taken))
+returns c =
+    let past = c .before .before .before .before .before .before in
+    sym (sample-here _ _ (past .before .before .before .before .if1 .taken))
 
 returns-2 : tie.Need-returns-2
 returns-2 c = c .none .ensures ∙ sym (no-sample _ _ (c .before .if1 .left))

@@ -3,7 +3,7 @@ use Prim.Native.Nat.{_-_}
 use mathlib.Core.Path.{_≡_, refl, sym, _∙_}
 use borrow.Author.Needs.{needs}
 use lib.ListN.{length, drop}
-use Rattle.dense.proofs.Turns.{outside-on, outside-here, outside-end}
+use Rattle.dense.proofs.Loops.{outside-on, outside-here, outside-end}
 use Rattle.dense.specs.Interpolation.{anyOutside}
 use Rattle.dense.proofs.verdict.any_outside.Statement.{statement}
 use Rattle.dense.proofs.verdict.any_outside.Tie as tie

@@ -1,8 +1,8 @@
--- `store` is `put`: its numbers, one after the other.
+-- `store` is `written`: its numbers, one after the other.
 use borrow.Author.Needs.{needs}
 use lib.ListN.{length-set}
 use borrow.Author.Tests.{lt-ltb, le-ltb}
-use Rattle.dense.specs.Interpolation.{put}
+use Rattle.dense.specs.Interpolation.{written}
 use Rattle.dense.proofs.writing.store.Statement.{statement}
 use Rattle.dense.proofs.writing.store.Tie as tie
 
@@ -25,11 +25,11 @@ same-length : tie.Need-same-length
 same-length c = simp length-set
 
 returns : tie.Need-returns
-unfolding put
+unfolding written
 returns c = simp (lt-ltb _ _ (c .if1 .taken))
 
 returns-2 : tie.Need-returns-2
-unfolding put
+unfolding written
 returns-2 c = simp (le-ltb _ _ (c .if1 .left))
 
 pub store-spec : {M : Type 1} → statement M

@@ -1,16 +1,16 @@
--- `write_all` is `putEach`: what is left to do here leaves what the whole leaves.
+-- `write_all` is `writtenAll`: what is left to do here leaves what the whole leaves.
 use Prim.Native.Nat.{_-_}
 use mathlib.Core.Path.{_≡_, refl, sym, _∙_}
 use native.Mathlib.Omega.{arith}
 use borrow.Author.Needs.{needs}
 use lib.ListN.{length, drop}
-use Rattle.dense.proofs.Turns.{put-on, put-end}
-use Rattle.dense.specs.Interpolation.{putEach}
+use Rattle.dense.proofs.Loops.{put-on, put-end}
+use Rattle.dense.specs.Interpolation.{writtenAll}
 use Rattle.dense.proofs.writing.write_all.Statement.{statement}
 use Rattle.dense.proofs.writing.write_all.Tie as tie
 
 abbrev Inv-loop : tie.InvT-loop
-Inv-loop times samples out₀ k₀ j₀ out k j = (length out ≡ length out₀) × (putEach samples j k (drop j times) out ≡ putEach samples 0 0 times out₀)
+Inv-loop times samples out₀ k₀ j₀ out k j = (length out ≡ length out₀) × (writtenAll samples j k (drop j times) out ≡ writtenAll samples 0 0 times out₀)
 
 abbrev μ-loop : tie.MeasureT-loop
 μ-loop times samples out₀ k₀ j₀ out k j = length times - j

@@ -1,15 +1,15 @@
--- `direction_of` is `direction`.
+-- `direction_of` is `directionOf`.
 use lib.Ieee.{ofBits, ofInt, neg}
-use Rattle.run.specs.Plan.{direction}
+use Rattle.run.specs.Plan.{directionOf}
 use Rattle.run.proofs.formulas.direction_of.Statement.{statement}
 use Rattle.run.proofs.formulas.direction_of.Tie as tie
 
 returns : tie.Need-returns
-unfolding direction ofBits ofInt
+unfolding directionOf ofBits ofInt
 returns c = simp (c .if1 .taken)
 
 returns-2 : tie.Need-returns-2
-unfolding direction ofBits ofInt neg
+unfolding directionOf ofBits ofInt neg
 returns-2 c = simp (c .if1 .left)
 
 pub direction-of-spec : {M : Type 1} → statement M

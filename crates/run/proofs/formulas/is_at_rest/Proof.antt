@@ -1,16 +1,16 @@
--- `is_at_rest` is `rests`.
+-- `is_at_rest` is `isAtRest`.
 use mathlib.Core.Path.{sym, _∙_}
 use borrow.Author.Needs.{needs}
-use Rattle.run.specs.Formulas.{rests}
+use Rattle.run.specs.Formulas.{isAtRest}
 use Rattle.run.proofs.formulas.is_at_rest.Statement.{statement}
 use Rattle.run.proofs.formulas.is_at_rest.Tie as tie
 
 returns : tie.Need-returns
-unfolding rests
+unfolding isAtRest
 returns c = simp (sym (c .before .before .is-still .ensures) ∙ c .before .if1 .taken, c .is-still2 .ensures)
 
 returns-2 : tie.Need-returns-2
-unfolding rests
+unfolding isAtRest
 returns-2 c = simp (sym (c .before .is-still .ensures) ∙ c .if1 .left)
 
 pub is-at-rest-spec : {M : Type 1} → statement M

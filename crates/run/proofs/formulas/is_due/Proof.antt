@@ -1,12 +1,12 @@
--- `formulas::is_due` is `goesOn`.
+-- `formulas::is_due` is `isDue`.
 use lib.Ieee.{ofBits}
 use borrow.Author.Needs.{needs}
-use Rattle.run.specs.Formulas.{goesOn}
+use Rattle.run.specs.Formulas.{isDue}
 use Rattle.run.proofs.formulas.is_due.Statement.{statement}
 use Rattle.run.proofs.formulas.is_due.Tie as tie
 
 returns : tie.Need-returns
-unfolding goesOn ofBits
+unfolding isDue ofBits
 returns c = simp (c .direction-of .ensures)
 
 pub is-due-spec : {M : Type 1} → statement M

@@ -1,12 +1,12 @@
--- `formulas::is_tail` is `isShort`.
+-- `formulas::is_tail` is `isTail`.
 use lib.Ieee.{ofBits, round, neg}
 use borrow.Author.Needs.{needs}
-use Rattle.run.specs.Formulas.{isShort}
+use Rattle.run.specs.Formulas.{isTail}
 use Rattle.run.proofs.formulas.is_tail.Statement.{statement}
 use Rattle.run.proofs.formulas.is_tail.Tie as tie
 
 returns : tie.Need-returns
-unfolding isShort ofBits round neg
+unfolding isTail ofBits round neg
 returns c = simp (c .abs3 .ensures, c .before .abs2 .ensures, c .before .before .abs .ensures, c .before .before .before .left-at .ensures)
 
 pub is-tail-spec : {M : Type 1} → statement M

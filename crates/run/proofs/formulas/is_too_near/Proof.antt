@@ -1,16 +1,16 @@
--- `is_too_near` is `tooNear`.
+-- `is_too_near` is `isTooNear`.
 use lib.Ieee.{ofBits, ofInt}
 use borrow.Author.Needs.{needs}
-use Rattle.run.specs.Plan.{tooNear}
+use Rattle.run.specs.Plan.{isTooNear}
 use Rattle.run.proofs.formulas.is_too_near.Statement.{statement}
 use Rattle.run.proofs.formulas.is_too_near.Tie as tie
 
 returns : tie.Need-returns
-unfolding tooNear ofBits
+unfolding isTooNear ofBits
 returns c = simp (c .if1 .taken)
 
 returns-2 : tie.Need-returns-2
-unfolding tooNear ofBits ofInt
+unfolding isTooNear ofBits ofInt
 returns-2 c = simp (c .before .before .before .if1 .left, c .abs .ensures)
 
 pub is-too-near-spec : {M : Type 1} → statement M

@@ -1,11 +1,11 @@
--- `formulas::left_at` is `remains`.
+-- `formulas::left_at` is `leftAt`.
 use mathlib.Core.Path.{refl}
-use Rattle.run.specs.Formulas.{remains}
+use Rattle.run.specs.Formulas.{leftAt}
 use Rattle.run.proofs.formulas.left_at.Statement.{statement}
 use Rattle.run.proofs.formulas.left_at.Tie as tie
 
 returns : tie.Need-returns
-unfolding remains
+unfolding leftAt
 returns c = refl
 
 pub left-at-spec : {M : Type 1} → statement M

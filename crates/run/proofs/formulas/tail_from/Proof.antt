@@ -1,11 +1,11 @@
--- `formulas::tail_from` is `tailPoint`.
+-- `formulas::tail_from` is `tailFrom`.
 use mathlib.Core.Path.{refl}
-use Rattle.run.specs.Formulas.{tailPoint}
+use Rattle.run.specs.Formulas.{tailFrom}
 use Rattle.run.proofs.formulas.tail_from.Statement.{statement}
 use Rattle.run.proofs.formulas.tail_from.Tie as tie
 
 returns : tie.Need-returns
-unfolding tailPoint
+unfolding tailFrom
 returns c = refl
 
 pub tail-from-spec : {M : Type 1} → statement M

@@ -1,20 +1,25 @@
--- `are_within_limits` is `withinLimits`.
+-- `are_within_limits` is `areWithinLimits`.
 use borrow.Author.Tests.{le-leb, lt-leb}
-use Rattle.run.specs.Plan.{withinLimits}
+use Rattle.run.specs.Limits.{areWithinLimits}
 use Rattle.run.proofs.limits.are_within_limits.Statement.{statement}
 use Rattle.run.proofs.limits.are_within_limits.Tie as tie
 
 returns : tie.Need-returns
-unfolding withinLimits
+unfolding areWithinLimits
 returns c = simp (lt-leb _ _ (c .if1 .taken))
 
 returns-2 : tie.Need-returns-2
-unfolding withinLimits
+unfolding areWithinLimits
 returns-2 c = simp (le-leb _ _ (c .before .before .if1 .left), lt-leb _ _ (c .if2 .taken))
 
 returns-3 : tie.Need-returns-3
-unfolding withinLimits
-returns-3 c = rw (le-leb _ _ (c .before .before .before .if1 .left), le-leb _ _ (c .before .if2 .left))
+unfolding areWithinLimits
+returns-3 c = simp (le-leb _ _ (c .before .before .before .before .if1 .left), le-leb _ _ (c .before .before .if2 .left), lt-leb _ _ (c .if3 .taken))
+
+returns-4 : tie.Need-returns-4
+unfolding areWithinLimits
+returns-4 c =
+    rw (le-leb _ _ (c .before .before .before .before .before .if1 .left), le-leb _ _ (c .before .before .before .if2 .left), le-leb _ _ (c .before .if3 .left))
 
 pub are-within-limits-spec : {M : Type 1} → statement M
-are-within-limits-spec = tie.close (tie.spec returns returns-2 returns-3)
+are-within-limits-spec = tie.close (tie.spec returns returns-2 returns-3 returns-4)

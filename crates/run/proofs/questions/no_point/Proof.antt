@@ -1,12 +1,12 @@
--- `questions::no_point` is `nowhere`.
+-- `questions::no_point` is `noPoint`.
 use lib.Ieee.{ofBits}
 use borrow.Author.Needs.{needs}
-use Rattle.run.specs.Questions.{nowhere}
+use Rattle.run.specs.Questions.{noPoint}
 use Rattle.run.proofs.questions.no_point.Statement.{statement}
 use Rattle.run.proofs.questions.no_point.Tie as tie
 
 returns : tie.Need-returns
-unfolding nowhere ofBits
+unfolding noPoint ofBits
 returns c = simp (c .zero .ensures)
 
 pub no-point-spec : {M : Type 1} → statement M

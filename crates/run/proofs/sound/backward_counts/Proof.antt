@@ -1,7 +1,7 @@
 -- `backward_counts` is `backwardCounts`.
 use borrow.Author.Needs.{needs}
 use borrow.Author.Tests.{le-leb, lt-leb}
-use Rattle.run.specs.Counting.{backwardCounts}
+use Rattle.run.specs.Sound.{backwardCounts}
 use Rattle.run.proofs.sound.backward_counts.Statement.{statement}
 use Rattle.run.proofs.sound.backward_counts.Tie as tie
 

@@ -1,7 +1,7 @@
 -- `forward_counts` is `forwardCounts`.
 use borrow.Author.Needs.{needs}
 use borrow.Author.Tests.{le-leb, lt-leb}
-use Rattle.run.specs.Counting.{forwardCounts}
+use Rattle.run.specs.Sound.{forwardCounts}
 use Rattle.run.proofs.sound.forward_counts.Statement.{statement}
 use Rattle.run.proofs.sound.forward_counts.Tie as tie
 

@@ -1,7 +1,7 @@
 -- `pass_counts` is `passCounts`.
 use borrow.Author.Needs.{needs}
 use borrow.Author.Tests.{lt-ltb, le-ltb, eq-eqb, ne-eqb}
-use Rattle.run.specs.Counting.{passCounts}
+use Rattle.run.specs.Sound.{passCounts}
 use Rattle.run.proofs.sound.pass_counts.Statement.{statement}
 use Rattle.run.proofs.sound.pass_counts.Tie as tie
 

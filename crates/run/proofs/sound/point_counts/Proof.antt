@@ -2,7 +2,7 @@
 use native.Mathlib.Omega.{arith}
 use borrow.Author.Needs.{needs}
 use borrow.Author.Tests.{le-leb, lt-leb, eq-eqb, ne-eqb}
-use Rattle.run.specs.Counting.{pointCounts}
+use Rattle.run.specs.Sound.{pointCounts}
 use Rattle.run.proofs.sound.point_counts.Statement.{statement}
 use Rattle.run.proofs.Counts.{rank-le}
 use Rattle.run.proofs.sound.point_counts.Tie as tie

@@ -1,11 +1,11 @@
--- `waiting::mark_at` is `markOf`.
+-- `waiting::mark_at` is `markAt`.
 use borrow.Author.Needs.{needs}
-use Rattle.run.specs.Waiting.{markOf}
+use Rattle.run.specs.Waiting.{markAt}
 use Rattle.run.proofs.waiting.mark_at.Statement.{statement}
 use Rattle.run.proofs.waiting.mark_at.Tie as tie
 
 returns : tie.Need-returns
-unfolding markOf
+unfolding markAt
 returns c = simp (c .stage-at .ensures, c .before .index-number .ensures, c .before .before .at-number .ensures)
 
 pub mark-at-spec : {M : Type 1} → statement M

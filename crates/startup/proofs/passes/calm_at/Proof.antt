@@ -1,12 +1,12 @@
--- `passes::calm_at` is `calm`.
+-- `passes::calm_at` is `calmAt`.
 use lib.Ieee.{ofBits, round}
 use borrow.Author.Needs.{needs}
-use Rattle.startup.specs.Passes.{tiny, calm}
+use Rattle.startup.specs.Passes.{tiny, calmAt}
 use Rattle.startup.proofs.passes.calm_at.Statement.{statement}
 use Rattle.startup.proofs.passes.calm_at.Tie as tie
 
 returns : tie.Need-returns
-unfolding calm tiny ofBits round
+unfolding calmAt tiny ofBits round
 returns c = simp (c .widen .ensures)
 
 pub calm-at-spec : {M : Type 1} → statement M

@@ -6,7 +6,9 @@ use Rattle.startup.proofs.passes.last_sums.Tie as tie
 
 returns : tie.Need-returns
 unfolding lastSums sumsOn
-returns c = simp (c .on4 .ensures, c .before .before .on3 .ensures, c .before .before .before .before .on2 .ensures, c .before .before .before .before .before .before .on .ensures, c .before .before .before .before .before .before .before .before .at-epoch .ensures, c .before .before .before .before .before .before .before .before .before .state-at .ensures)
+returns c =
+    let past = c .before .before .before .before .before .before in
+    simp (c .on4 .ensures, c .before .before .on3 .ensures, c .before .before .before .before .on2 .ensures, c .before .before .before .before .before .before .on .ensures, past .before .before .at-epoch .ensures, past .before .before .before .state-at .ensures)
 
 pub last-sums-spec : {M : Type 1} → statement M
 last-sums-spec =

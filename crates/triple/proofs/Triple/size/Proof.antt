@@ -20,7 +20,9 @@ returns-3 c = simp (sym (differs _) ∙ c .before .before .if1 .left, sym (diffe
 
 returns-4 : tie.Need-returns-4
 unfolding sizeOf
-returns-4 c = simp (sym (differs _) ∙ c .before .before .before .before .before .before .before .if1 .left, sym (differs _) ∙ c .before .before .before .before .before .before .if2 .left, sym (differs _) ∙ c .before .before .before .before .before .if3 .left, c .larger-of2 .ensures, c .before .before .larger-of .ensures, c .before .before .before .before .abs .ensures, c .before .before .before .abs2 .ensures, c .before .abs3 .ensures)
+returns-4 c =
+    let past = c .before .before .before .before .before .before in
+    simp (sym (differs _) ∙ past .before .if1 .left, sym (differs _) ∙ c .before .before .before .before .before .before .if2 .left, sym (differs _) ∙ c .before .before .before .before .before .if3 .left, c .larger-of2 .ensures, c .before .before .larger-of .ensures, c .before .before .before .before .abs .ensures, c .before .before .before .abs2 .ensures, c .before .abs3 .ensures)
 
 pub size-spec : {M : Type 1} → statement M
 size-spec =

@@ -1,12 +1,12 @@
--- `slid` is `slide`.
+-- `slid` is `slid`.
 use mathlib.Core.Path.{refl}
 use borrow.Author.Needs.{needs}
-use Rattle.triple.specs.Nine.{slide}
+use Rattle.triple.specs.Nine.{slid}
 use Rattle.triple.proofs.nine.slid.Statement.{statement}
 use Rattle.triple.proofs.nine.slid.Tie as tie
 
 returns : tie.Need-returns
-unfolding slide
+unfolding slid
 returns c = refl
 
 pub slid-spec : {M : Type 1} → statement M

@@ -1,0 +1,56 @@
+// SPDX-License-Identifier: MIT OR Apache-2.0
+//! Interpolation over the real library.
+#![cfg(all(target_arch = "x86_64", target_os = "linux", feature = "dense"))]
+mod common;
+
+use common::{force, run, SAMPLED};
+use gauss_jackson::{first_out_of_order, interpolate, interpolate_batch, interpolate_in_any_order, numbers_for, Refusal};
+
+/// From rest to 1, in each component.
+fn table() -> Vec<f64> {
+    let mut table = vec![0.0; 10];
+    table.extend([1.0, 1.0, 1.0, 1.0, 5.0, 5.0, 5.0, 20.0, 20.0, 20.0]);
+    table
+}
+
+#[test]
+fn the_quintic() {
+    let table = table();
+    let at = interpolate(0.5, &table).unwrap();
+    assert_eq!((at.r.z, at.v.x), (0.03125, 0.3125));
+    assert_eq!(interpolate_batch(&[0.5], &table), Ok(vec![at]));
+    assert_eq!(interpolate_batch(&[], &table), Ok(vec![]));
+    assert!(interpolate(f64::NAN, &table).unwrap().r.x.is_nan());
+}
+
+#[test]
+fn refusals() {
+    let table = table();
+    assert_eq!(interpolate(0.5, &table[1..]), Err(Refusal::Shape));
+    assert_eq!(interpolate(0.5, &table[10..]), Err(Refusal::NoDenseOutput));
+    assert_eq!(interpolate(0.5, &[]), Err(Refusal::NoDenseOutput));
+    assert_eq!(interpolate(1.5, &table), Err(Refusal::InterpOutOfBounds));
+    assert_eq!(interpolate_batch(&[0.5, 2.0], &table), Err(Refusal::InterpOutOfBounds));
+    assert_eq!(interpolate_in_any_order(&[2.0, 0.5], &table), Err(Refusal::InterpOutOfBounds));
+}
+
+/// Forward and backward: each state stands where its time stood, and is what a single interpolation gives between samples.
+#[test]
+fn any_order_gives_what_each_time_alone_gives() {
+    for (t0, tf) in [(0.0, 12.0), (12.0, 0.0)] {
+        let mut samples = vec![0.0; numbers_for(12)];
+        run(SAMPLED, t0, tf).drive(force, &mut samples).unwrap();
+        let times = [7.5, 0.25, 11.5, 3.125, 3.25, 10.5];
+        let alone: Vec<_> = times.iter().map(|t| interpolate(*t, &samples).unwrap()).collect();
+        assert_eq!(interpolate_in_any_order(&times, &samples), Ok(alone.clone()));
+        assert!(first_out_of_order(&times, &samples).is_some());
+        assert_ne!(interpolate_batch(&times, &samples), Ok(alone), "a batch out of order is not refused, and is meaningless");
+    }
+}
+
+#[test]
+fn nan_among_the_times_harms_no_other() {
+    let at = interpolate(0.5, &table()).unwrap();
+    let states = interpolate_in_any_order(&[0.5, f64::NAN, 0.25, -f64::NAN], &table()).unwrap();
+    assert!(states[0] == at && states[1].r.x.is_nan() && states[3].r.x.is_nan() && states[2].r.x < at.r.x);
+}

@@ -1,0 +1,103 @@
+// What a call gives, in plain numbers.
+ghost use mathlib.Core.Path.{_≡_};
+ghost use Rattle.gauss_jackson.specs.Answers.{started, answered, openQuestion};
+ghost use Rattle.app.specs.Reply.{asksFor, finishedAt, refusedBy, replyOf, repliedOf};
+use crate::Replied;
+use crate::Reply;
+use gauss_jackson::Outcome;
+use gauss_jackson::Question;
+use gauss_jackson::Solution;
+use refusals::Refusal;
+use run::Run;
+use run::Settings;
+use triple::Triple;
+
+pub fn asks_for(question: Question) -> Reply
+    ensures { λ x. ⌜ x ≡ asksFor question ⌝ }
+{
+    let r = question.r;
+    let v = question.v;
+    Reply {
+        t: question.t,
+        r,
+        v,
+        evals: 0,
+        steps: 0,
+        startup_iters: 0,
+        kind: 0,
+        refusal: 0,
+        number: question.number,
+    }
+}
+
+fn finished_at(solution: Solution) -> Reply
+    ensures { λ x. ⌜ x ≡ finishedAt solution ⌝ }
+{
+    let r = solution.r;
+    let v = solution.v;
+    Reply {
+        t: solution.t,
+        r,
+        v,
+        evals: solution.evals,
+        steps: solution.steps,
+        startup_iters: solution.startup_iters,
+        kind: 1,
+        refusal: 0,
+        number: 0,
+    }
+}
+
+fn refused_by(refusal: Refusal) -> Reply
+    ensures { λ x. ⌜ x ≡ refusedBy refusal ⌝ }
+{
+    let number = refusals::number_of(refusal);
+    let nothing = Triple::zero();
+    Reply {
+        t: 0.0,
+        r: nothing,
+        v: nothing,
+        evals: 0,
+        steps: 0,
+        startup_iters: 0,
+        kind: 2,
+        refusal: number as u16,
+        number: 0,
+    }
+}
+
+fn reply_of(outcome: Outcome) -> Reply
+    ensures { λ x. ⌜ x ≡ replyOf outcome ⌝ }
+{
+    match outcome {
+        Outcome::Ask(question) => asks_for(question),
+        Outcome::Done(solution) => finished_at(solution),
+        Outcome::Refused(refusal) => refused_by(refusal),
+    }
+}
+
+pub fn started_by(settings: Settings, t0: f64, tf: f64, r0: Triple, v0: Triple) -> Replied
+    ensures { λ x. ⌜ x ≡ repliedOf (started settings t0 tf r0 v0) ⌝ }
+{
+    let done = gauss_jackson::start(settings, t0, tf, r0, v0);
+    let run = done.run;
+    let outcome = done.outcome;
+    let reply = reply_of(outcome);
+    Replied { run, reply }
+}
+
+pub fn answered_by(run: Run, number: u16, a: Triple, out: &mut [f64]) -> Replied
+    ensures { λ x. ⌜ (x ≡ repliedOf (answered run number a (now (out .entry)) .got)) × (now (out .exit) ≡ answered run number a (now (out .entry)) .out) ⌝ }
+{
+    let done = gauss_jackson::answer(run, number, a, out);
+    let outcome = done.outcome;
+    let reply = reply_of(outcome);
+    let next = done.run;
+    Replied { run: next, reply }
+}
+
+pub fn open_in(run: Run) -> Reply
+    ensures { λ x. ⌜ x ≡ replyOf (openQuestion run) ⌝ }
+{
+    reply_of(gauss_jackson::open_question(run))
+}

@@ -1,0 +1,102 @@
+-- One turn of each loop, said of the definition that the loop works out.
+use Prim.Native.Nat.{ℕ, suc, _+_, _-_, _*_, _/_, _<_, _≤_}
+use mathlib.Core.Path.{_≡_, refl}
+use mathlib.Core.Bool.{Bool, true, false}
+use mathlib.Core.List.{List, _∷_}
+use native.Mathlib.Omega.{arith}
+use native.Mathlib.Numerals.{add-one}
+use lib.Dec.{ltb}
+use lib.ListN.{length, getD, drop, drop-of-length-le}
+use lib.Seq.{drop-cons}
+use lib.Ieee.{Float, nan, le}
+use borrow.Author.Tests.{lt-ltb, le-ltb, ltb-true, ltb-false}
+use Rattle.dense.specs.declared.interval.Ends.{Ends}
+use Rattle.dense.specs.Table.{timeOf}
+use Rattle.dense.specs.Intervals.{reached, firstPast, isShort, walkOn, walkedTo}
+use Rattle.dense.specs.Interpolation.{width, isOutside, anyOutside, valueAt, written, writtenAll}
+
+one-left : (m n : ℕ) → n < m → m - n ≡ suc (m - (n + 1))
+one-left m n h = omega arith
+
+none-left : (m n : ℕ) → m ≤ n → m - n ≡ 0
+none-left m n h = omega arith
+
+-- ---- the first sample that fails
+module _ (f : Bool) (l : List Float) (t : Float) (m n : ℕ) where
+  pub past-on : n < m → reached f (timeOf l n) t ≡ true → firstPast f l t (m - n) n ≡ firstPast f l t (m - (n + 1)) (n + 1)
+  unfolding firstPast
+  past-on h e = rw (one-left m n h, e)
+
+  pub past-here : n < m → reached f (timeOf l n) t ≡ false → firstPast f l t (m - n) n ≡ n
+  unfolding firstPast
+  past-here h e = rw (one-left m n h, e)
+
+  pub past-end : m ≤ n → firstPast f l t (m - n) n ≡ n
+  unfolding firstPast
+  past-end h = rw (none-left m n h)
+
+  -- ---- the batch's walk
+  pub walk-on : n < m → isShort f (timeOf l (n + 1)) t ≡ true → walkOn f l t (m - n) n ≡ walkOn f l t (m - (n + 1)) (n + 1)
+  unfolding walkOn
+  walk-on h e = rw (one-left m n h, e)
+
+  pub walk-here : n < m → isShort f (timeOf l (n + 1)) t ≡ false → walkOn f l t (m - n) n ≡ n
+  unfolding walkOn
+  walk-here h e = rw (one-left m n h, e)
+
+  pub walk-end : m ≤ n → walkOn f l t (m - n) n ≡ n
+  unfolding walkOn
+  walk-end h = rw (none-left m n h)
+
+-- ---- the same, where it is known how the table runs; x is the time that was read
+module _ (l : List Float) (t : Float) (m n : ℕ) (x : Float) (h : n < m) (is : x ≡ timeOf l n) where
+  pub later-on : le x t ≡ true → firstPast true l t (m - n) n ≡ firstPast true l t (m - (n + 1)) (n + 1)
+  unfolding firstPast reached
+  later-on e = rw (one-left m n h, ← is, e)
+
+  pub later-here : le x t ≡ false → firstPast true l t (m - n) n ≡ n
+  unfolding firstPast reached
+  later-here e = rw (one-left m n h, ← is, e)
+
+  pub earlier-on : le t x ≡ true → firstPast false l t (m - n) n ≡ firstPast false l t (m - (n + 1)) (n + 1)
+  unfolding firstPast reached
+  earlier-on e = rw (one-left m n h, ← is, e)
+
+  pub earlier-here : le t x ≡ false → firstPast false l t (m - n) n ≡ n
+  unfolding firstPast reached
+  earlier-here e = rw (one-left m n h, ← is, e)
+
+-- ---- the times that are looked at, and written
+module _ (times : List Float) (j : ℕ) (h : j < length times) where
+  next : drop j times ≡ getD times j nan ∷ drop (j + 1) times
+  next = rw add-one (drop-cons times j nan h)
+
+  pub outside-on : (e : Ends) → isOutside e (getD times j nan) ≡ false → anyOutside e (drop j times) ≡ anyOutside e (drop (j + 1) times)
+  unfolding anyOutside
+  outside-on e o = rw (next, o)
+
+  pub outside-here : (e : Ends) → isOutside e (getD times j nan) ≡ true → anyOutside e (drop j times) ≡ true
+  unfolding anyOutside
+  outside-here e o = rw (next, o)
+
+  pub put-on : (l : List Float) (k : ℕ) (out : List Float) →
+      writtenAll l j k (drop j times) out ≡ writtenAll l (j + 1) (walkedTo l (getD times j nan) k) (drop (j + 1) times) (written j (valueAt l (walkedTo l (getD times j nan) k) (getD times j nan)) out)
+  unfolding writtenAll
+  put-on l k out = rw next
+
+module _ (times : List Float) (j : ℕ) (h : length times ≤ j) where
+  pub outside-end : (e : Ends) → anyOutside e (drop j times) ≡ false
+  unfolding anyOutside
+  outside-end e = rw (drop-of-length-le times h)
+
+  pub put-end : (l : List Float) (k : ℕ) (out : List Float) → writtenAll l j k (drop j times) out ≡ out
+  unfolding writtenAll
+  put-end l k out = rw (drop-of-length-le times h)
+
+-- ---- room: times that fit, said by the quotient and by the product
+pub room-is : (room times : ℕ) → ltb (room / width) times ≡ ltb room (width * times)
+room-is room times = by (ltb room (width * times)) (λ e. ltb-true room (width * times) e) (λ e. ltb-false room (width * times) e)
+  where
+    by : (b : Bool) → (b ≡ true → room < width * times) → (b ≡ false → width * times ≤ room) → ltb (room / width) times ≡ b
+    by true t f = let h : room < width * times = t refl in lt-ltb (room / width) times (omega arith)
+    by false t f = let h : width * times ≤ room = f refl in le-ltb (room / width) times (omega arith)

@@ -1,0 +1,87 @@
+-- The fast path is the plain way: where `look_at` says that an answer goes it, what changes, each part in its place, is all that `answered`
+-- gives, the run, the outcome and the buffer. For any run, any number, any acceleration and any buffer.
+use mathlib.Core.Path.{_≡_, refl, sym, ap, subst, _∙_}
+use Prim.Native.Nat.{ℕ, _+_}
+use mathlib.Core.Bool.{Bool, true, false, _&&_, cond}
+use mathlib.Core.List.{List}
+use lib.Dec.{eqb}
+use lib.ListN.{length}
+use lib.Ieee.{Float, binary64, add}
+use Rattle.triple.specs.declared.Triple.{Triple}
+use Rattle.triple.specs.declared.State.{State}
+use Rattle.run.specs.declared.Plan.{Plan}
+use Rattle.run.specs.declared.Count.{Count}
+use Rattle.run.specs.declared.Track.{Track}
+use Rattle.run.specs.declared.Run.{Run}
+use Rattle.run.specs.declared.waiting.Waiting.the-variants.{Step}
+use Rattle.run.specs.Formulas.{trackOn, stepPoint}
+use Rattle.run.specs.Questions.{questionAt, endPoint}
+use Rattle.run.specs.Moves.{tried, committed, predicted}
+use Rattle.run.specs.Sound.{isOpenStep}
+use Rattle.run.proofs.Counts.{both}
+use Rattle.run.proofs.OpenStep.{open-at-step, open-sound}
+use Rattle.gauss_jackson.specs.Answers.{nextCount, asking, questionOf, stepTaken, answeredAt, answered}
+use Rattle.fastpath.specs.declared.Look.{Look}
+use Rattle.fastpath.specs.Looking.{reached, isMade, isFollowed, lookedAway, lookedAgain, lookedOn, lookedAt}
+use Rattle.fastpath.specs.Moving.{askedAt, askedAgain, trackBy, madeStep, keptStep, triedGiven, steppedGiven}
+use Rattle.fastpath.proofs.Taken.{apart, taken-again, taken-on, ended-on}
+
+module _ (run : Run) (number : ℕ) (a : Triple) (out : List Float) where
+  abbrev p : Plan
+  p = run .body .plan
+
+  abbrev k : Track
+  k = run .body .track
+
+  abbrev c : Count
+  c = nextCount (run .mark .count)
+
+  abbrev isOpen : Bool
+  isOpen = isOpenStep (run .mark) (p .settings) (run .body .«startup_iters») (k .steps)
+
+  abbrev isAsked : Bool
+  isAsked = eqb (run .mark .count .number) number
+
+  abbrev made : Bool
+  made = isMade (run .mark .index) p (k .sums) (run .body .trial) a
+
+  abbrev end : State
+  end = reached (run .mark .index) p (k .sums) (run .body .trial) a
+
+  abbrev followed : Bool
+  followed = isFollowed p (add binary64 (k .t) (p .h)) (k .steps + 1) (length out)
+
+  -- what each look promises, where it says so
+  abbrev SameAgain : Look → Type 0
+  SameAgain l = l .again ≡ true → answered run number a out ≡ triedGiven run (askedAgain l p k (run .body .trial)) out
+
+  abbrev SameOn : Look → Type 0
+  SameOn l = l .on ≡ true → answered run number a out ≡ steppedGiven run (madeStep l p k (run .body .a) a) (keptStep l p k (run .body .a) a out)
+
+  abbrev look : Bool → Bool → Look
+  look o d = cond o (cond d (lookedOn p c k end (length out)) (lookedAgain (run .mark .index) c k end)) (lookedAway (run .mark) k (run .body .trial))
+
+  to-step : isOpen && isAsked ≡ true → answered run number a out ≡ stepTaken (run .mark .index) c (run .body) a out
+  unfolding answered answeredAt
+  to-step e = let h = both _ _ e in rw (open-sound run (h .0), h .1, open-at-step run (h .0))
+
+  again-by : (o d : Bool) → isOpen && isAsked ≡ o → made ≡ d → SameAgain (look o d)
+  unfolding lookedAway lookedAgain lookedOn askedAgain askedAt asking questionOf questionAt endPoint stepPoint tried
+  again-by true true u v e = apart e
+  again-by true false u v e = to-step u ∙ taken-again _ _ _ _ _ v
+  again-by false d u v e = apart e
+
+  on-by : (o d : Bool) → isOpen && isAsked ≡ o → made ≡ d → SameOn (look o d)
+  unfolding lookedAway lookedAgain lookedOn madeStep keptStep trackBy askedAt asking questionOf questionAt endPoint stepPoint predicted committed trackOn
+  on-by true true u v e = to-step u ∙ taken-on _ _ _ _ _ v ∙ ended-on c (committed (run .body) end a) out e
+  on-by true false u v e = apart e
+  on-by false d u v e = apart e
+
+  module _ (l : Look) (is : l ≡ lookedAt (run .mark) p k (run .body .trial) (run .body .«startup_iters») number a (length out)) where
+    pub same-again : SameAgain l
+    unfolding lookedAt
+    same-again = subst SameAgain (sym is) (again-by (isOpen && isAsked) made refl refl)
+
+    pub same-on : SameOn l
+    unfolding lookedAt
+    same-on = subst SameOn (sym is) (on-by (isOpen && isAsked) made refl refl)

@@ -1,0 +1,11 @@
+-- `wants_samples` is `wantsSamples`.
+use Rattle.run.specs.Limits.{wantsSamples}
+use Rattle.run.proofs.limits.wants_samples.Statement.{statement}
+use Rattle.run.proofs.limits.wants_samples.Tie as tie
+
+returns : tie.Need-returns
+unfolding wantsSamples
+returns c = cc
+
+pub wants-samples-spec : {M : Type 1} → statement M
+wants-samples-spec = tie.close (tie.spec returns)

@@ -1,0 +1,5 @@
+-- 01: "A sample is ten f64: t, r, v, a."
+use Prim.Native.Nat.{ℕ}
+
+abbrev pub sampleWidth : ℕ
+sampleWidth = 10

@@ -1,0 +1,26 @@
+/* SPDX-License-Identifier: MIT OR Apache-2.0 */
+/* What is measured: a flight out and back around an Earth with its flattening (J2), in km and s. */
+#ifndef FLIGHT_H
+#define FLIGHT_H
+
+#include "gauss_jackson.h"
+
+typedef struct place {
+    double t;
+    gj_triple r, v;
+} place;
+
+typedef struct measured {
+    uint32_t refusal;  /* 0 where both ways finished; then the rest holds */
+    double returned;   /* m: how far from its start the flight comes back */
+    double energy;     /* relative change from start to far end */
+    uint64_t answers;  /* on the way out */
+    gj_triple far_end;
+} measured;
+
+double distance(gj_triple a, gj_triple b);
+
+/* Out over `span` by steps of `h`, then back from where that ended; default settings. */
+measured out_and_back(place start, double span, double h);
+
+#endif
