@@ -19,7 +19,10 @@ class Param:
         if self.kind == 'slice' and self.type != '[f64]':
             raise Refused(f'the slice {t} is not covered: only &mut [f64] is.')
         self.row = rows.of('f64' if self.kind == 'slice' else self.type)
-        self.life = None
+        self.life = self.local_at = None
+
+    def cell(self):
+        return f'b-{self.v} o-{self.v}'
 
     def denotes(self):
         return {'plain': self.row.denotes, 'slice': 'RefT (List Float)'}.get(self.kind, f'RefT {self.row.denotes}')
@@ -115,6 +118,8 @@ class Frame:
         self.refs = [p for p in self.params if p.kind != 'plain']
         for i, p in enumerate(self.refs):
             p.life = i
+        for i, p in enumerate(self.params):
+            p.local_at = i + 1
         self.result = self.rows.of(function.result)
         self.tag = function.name.replace('_', '-')
         self.key = '#' + function.path().replace('::', '·').replace('_', '-')
@@ -207,7 +212,7 @@ class Frame:
                 '  abbrev Post : Val → SProp 𝓤', f'  Post = walkOf 𝓤 H A f.ended stayed (f.clauses 𝓤 H A at-mem run-of) .post {self.bound()}', '']
         return out
 
-    def entry(self, context, count):
+    def entry(self, context):
         """The walk's first steps: locals, parameters, and what these own."""
         for i, p in enumerate(self.params):
             context.say(f'pass1 ! (init ! {context.at(f"_{i + 1}")} refl {p.fits()})')
@@ -239,8 +244,30 @@ class Frame:
                 f'        qed W (({tokens}) ∷ ‵ (owns ({rows}) x at) ∷ []) ∵ enter ! C Λ walked-fn ({flat}) _ $',
                 '        ' + ''.join(f'alloc1 ! (λ l-{i}. ' for i in range(count)) + 'alloc0 ! $ params1 ! $', '        ' + context.text() + ')' * count, '']
 
-    def exits(self, returned, names, facts, steps, items):
-        return ['  ' + f'exits : {facts}', f'  exits {names} =', f'      qed W ({items}) ∵', '      ' + steps, '']
+    def leaves(self, c, told, ends, says, put_lent):
+        """The steps at the exit: all that is left is what the contract says, of the result `told` and of what the references hold then."""
+        last = tuple_of([ends(p) if p in self.refs and p.kind != 'shared' else 'tt' for p in self.params])
+        same = tuple_of([f'l-{p.v}' if p.kind == 'slice' else 'tt' for p in self.params])
+        c.say(f'suffices ! _ (ends-at 𝓤 H A f.ended stayed (f.clauses 𝓤 H A at-mem run-of) W {self.bound()} {self.result.value(told)} {told} {last} {same})', f'says ! {says}')
+        c.add('tok', 'nothing !')
+        for p in reversed(self.refs):
+            c.join_on(f'l:{p.name}')
+        c.say('frame !')
+        c.become(1)
+        c.add('acc', 'nothing !')
+        for p in reversed(self.params):
+            if p.kind == 'plain':
+                c.add('this', p.row.owned(p.v, f'{p.v}-is'))
+            elif p.kind == 'slice':
+                c.front(f'fin:{p.name}', 'acc')
+            else:
+                put_lent(c, p)
+            c.say('fjoin !')
+            c.become(2, 'acc')
+        c.say(self.result.owned(told, 'is'), 'move ! (1 ∷ 0 ∷ [])', 'done !')
+
+    def exits(self, statement, names, items, c):
+        return [f'  exits : {statement}', f'  exits {names} =', f'      qed W ({items}) ∵', '      ' + c.text(), '']
 
     def ending(self):
         ps, count = self.params, len(self.refs)
