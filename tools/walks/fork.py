@@ -5,11 +5,12 @@
 Parts of the lent struct are read for `L`; each way out has the struct and the buffer, and no other."""
 import re
 from context import Context
-from frame import FLOATS, Callee, Frame
+from frame import Frame
+from params import FLOATS, Callee
 from parts import Part, give_all, inner_facts
 from rows import nth, numbers, product_of, tuple_of
 from sources import Refused
-from steps import Call, assign, close_lent, init, lend_slice, open_lent, read_part
+from steps import Call, assign, close_lent, hand_over, init, lend_slice, open_lent, read_part
 
 LOOK = re.compile(r'let look = ([\w:]+)\((.*?)\);', re.S)
 TEST = re.compile(r'if look\.(\w+) \{\n\s*return ([\w:]+)\((.*?)\);\n\s*\}', re.S)
@@ -129,18 +130,17 @@ class Fork(Frame):
 
     def goes_look(self):
         g, lent, c = self.look, self.lent, Context(['acc'])
-        for a in reversed(self.args):
-            if isinstance(a, str):
-                c.say(self.rows.of('usize').owned(a, f'(refl, {self.out.v}-room .0)'))
-            else:
-                c.say(a.row.owned(self.value(a), a.known() if isinstance(a, Part) else f'{a.v}-is'))
-            c.say('fjoin !')
-        c.say('nothing !', 'join !', 'frame !', 'done !')
+        hand_over(c, [(None, self.owning(a)) for a in self.args], [])
         held = tuple_of([self.value(a) for a in self.args])
         return ["  -- what each callee's triple binds outside", f'  abbrev to-{g.tag} : {g.contract()} 𝓤 H A at-mem run-of .Ghost',
                 f'  to-{g.tag} = ((tt, tt, tt, {held}, {tuple_of([self.machine(a) + " ∷ []" for a in self.args])}), tt)', '',
                 f'  goes-{g.tag} : ({lent.v}-is : {lent.row.is_of(lent.v)}) → ent 𝓤 (⋆ 𝓤 H A ((‵ ftrue) ∷ [])) ({g.contract()} 𝓤 H A at-mem run-of .pre to-{g.tag})',
                 f'  goes-{g.tag} {lent.v}-is =', f'      qed W ((‵ ftrue) ∷ []) ∵ {c.text()}', '']
+
+    def owning(self, a):
+        if isinstance(a, str):
+            return self.rows.of('usize').owned(a, f'(refl, {self.out.v}-room .0)')
+        return a.row.owned(self.value(a), a.known() if isinstance(a, Part) else f'{a.v}-is')
 
     def goes(self, k):
         way, g, lent, out = self.ways[k], self.ways[k].callee, self.lent, self.out
@@ -152,25 +152,19 @@ class Fork(Frame):
             c.front('all')
             c.say('split !')
             c.become(1, name, 'all' if i < len(names) - 2 else names[-1])
-        c.add('acc', 'nothing !')
-        for n in reversed(way.names()):
-            if n in (lent.name, out.name):
-                c.front(f'p:{n}', 'acc')
-            else:
-                c.add('this', self.seen.owned('l', 'l-is') if n == 'look' else self.by_name[n].row.owned(self.by_name[n].v, f'{self.by_name[n].v}-is'))
-            c.say('fjoin !')
-            c.become(2, 'acc')
-        c.add('tok', 'nothing !')
-        for p in reversed(self.refs):
-            c.join_on(f'l:{p.name}')
-        c.front('tok', 'acc')
-        c.say('join !', 'frame !', 'done !')
+        hand_over(c, [self.handing(n) for n in way.names()], self.refs)
         values = tuple_of([(self.seen.value('l') if n == 'look' else self.by_name[n].value()) + ' ∷ []' for n in way.names()])
         binds, taken = (f'(l : {self.seen.denotes}) → ', ' l') if looks else ('', '')
         known, names = (f'(l : {self.seen.denotes}) (l-is : {self.seen.is_of("l")}) → ', ' l l-is') if looks else ('', '')
         return [f'  abbrev to-{g.tag} : {binds}{g.contract()} 𝓤 H A at-mem run-of .Ghost', f'  to-{g.tag}{taken} = (({self.lives()}, {self.shares()}, tt, {self.held(k)}, {values}), tt)', '',
                 f'  goes-{g.tag} : {known}ent 𝓤 (⋆ 𝓤 H A (({one}) ∷ [])) ({g.contract()} 𝓤 H A at-mem run-of .pre (to-{g.tag}{taken}))', f'  goes-{g.tag}{names} =',
                 f'      qed W (({one}) ∷ []) ∵ {c.text()}', '']
+
+    def handing(self, name):
+        if name == 'look':
+            return None, self.seen.owned('l', 'l-is')
+        p = self.by_name[name]
+        return (None, p.row.owned(p.v, f'{p.v}-is')) if p.kind == 'plain' else (f'p:{name}', None)
 
     # ---- the exit
     def left(self):

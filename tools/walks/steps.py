@@ -71,6 +71,24 @@ def lend_slice(c, p, to, both):
            '(stop !)', init(c, both, p.fits()))
 
 
+def hand_over(c, args, refs):
+    """What a callee takes, from tokens and borrows: each of `args` is the name of a borrow, or why a value is owned."""
+    if c.names != ['acc']:
+        c.add('acc', 'nothing !')
+    for borrow, owned in reversed(args):
+        if borrow:
+            c.front(borrow, 'acc')
+        else:
+            c.add('this', owned)
+        c.say('fjoin !')
+        c.become(2, 'acc')
+    c.add('tok', 'nothing !')
+    for p in reversed(refs):
+        c.join_on(f'l:{p.name}')
+    c.front('tok', 'acc')
+    c.say('join !', 'frame !', 'done !')
+
+
 class Call:
     """A call: the callee, what it is handed, and the names of what comes back."""
 

@@ -7,12 +7,13 @@
 An argument is a parameter, `*run` for all of the struct, or `run.p.q` for a part of it."""
 import re
 from context import Context
-from frame import FLOATS, Callee, Frame
+from frame import Frame
 from nine import nine_facts, nine_law
+from params import FLOATS, Callee
 from parts import Part, give_all, inner_facts
 from rows import NINE, nth, numbers, product_of, tuple_of
 from sources import Refused
-from steps import Call, assign, close_lent, init, lend_slice, look_into, open_lent, read_part, shut
+from steps import Call, assign, close_lent, hand_over, init, lend_slice, look_into, open_lent, read_part, shut
 
 CALL = re.compile(r'(?:let done = )?([\w:]+)\((.*?)\)(?:;|$)', re.S)
 STORE = re.compile(r'^    (\*?)(\w+)((?:\.\w+)*) = done\.(\w+);$', re.M)
@@ -162,29 +163,19 @@ class Thin(Frame):
                f'  to-callee = (({self.lives(self.slices)}, {self.shares(self.slices)}, tt, {self.held()}, {values}), tt)', '']
         links = [self.token(p) for p in self.slices] + [f'‵ (MutSlice (named {i}) κ-{p.v} f64 .own x-{p.v} ({p.value()} ∷ []))' for i, p in enumerate(self.slices)]
         one = ' ⊛ '.join(links) if links else '‵ ftrue'
-        c = Context(['one'])
+        c = Context(['one'] if links else ['acc'])
         if links:
             c.say('split !')
             c.become(1, f'l:{self.slices[0].name}', f's:{self.slices[0].name}')
-            c.add('acc', 'nothing !')
-        else:
-            c.names = ['acc']
-        for a in reversed(self.args):
-            if not isinstance(a, Part) and a.kind == 'slice':
-                c.front(f's:{a.name}', 'acc')
-            else:
-                value, why = (a.value(), a.known()) if isinstance(a, Part) else (a.v, f'{a.v}-is')
-                c.add('this', a.row.owned(value, why))
-            c.say('fjoin !')
-            c.become(2, 'acc')
-        c.add('tok', 'nothing !')
-        for p in reversed(self.slices):
-            c.join_on(f'l:{p.name}')
-        c.front('tok', 'acc')
-        c.say('join !', 'frame !', 'done !')
+        hand_over(c, [self.handing(a) for a in self.args], self.slices)
         needs = f'({lent.v}-is : {lent.row.is_of(lent.v)}) → ' if self.reads() else ''
         name = f' {lent.v}-is' if self.reads() else ''
         return out + [f'  goes : {needs}ent 𝓤 (⋆ 𝓤 H A (({one}) ∷ [])) ({g.contract()} 𝓤 H A at-mem run-of .pre to-callee)', f'  goes{name} =', f'      qed W (({one}) ∷ []) ∵ {c.text()}', '']
+
+    def handing(self, a):
+        if isinstance(a, Part):
+            return None, a.row.owned(a.value(), a.known())
+        return (f's:{a.name}', None) if a.kind == 'slice' else (None, a.row.owned(a.v, f'{a.v}-is'))
 
     # ---- the exit
     def left(self):
