@@ -1,8 +1,11 @@
+/* SPDX-License-Identifier: MIT OR Apache-2.0 */
 /* The three columns, each with the same force, a = -r, and the same ends of a run to compare. */
 #ifndef BENCH_H
 #define BENCH_H
 
 #include "gauss_jackson.h"
+
+#include <stdbool.h>
 
 /* A run's input. `out` is the room for samples, where settings.samples says so; it is not cleared. */
 typedef struct task {

@@ -1,3 +1,4 @@
+/* SPDX-License-Identifier: MIT OR Apache-2.0 */
 /* Stands in front of memcpy (linked by --wrap=memcpy) and tells at the end, on standard error, from where how many bytes were copied
  * how often: lines ADDRESS BYTES CALLS. */
 #include <stddef.h>

@@ -1,3 +1,4 @@
+/* SPDX-License-Identifier: MIT OR Apache-2.0 */
 /* A plugin for qemu's user emulator (one built with plugins, as Debian's qemu-user is): counts the guest's instructions, which are the
  * same at every run. Each block of code that the emulator translates gets a counter of its own; at the end the file named by
  * `-plugin count.so,to=FILE` gets a line a block, ADDRESS INSTRUCTIONS MOVES FLOATS, by which they can be added up by function:

@@ -1,3 +1,4 @@
+/* SPDX-License-Identifier: MIT OR Apache-2.0 */
 /* driver COLUMN WORK: does one work in one column, and prints a line: answers or times read, seconds, and a digest of all results.
  *   COLUMN  module, plain, library; none, which does all but the work, so that its instructions can be taken away
  *   WORK    year, year-defaults, day, single, batch */

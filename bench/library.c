@@ -1,3 +1,4 @@
+/* SPDX-License-Identifier: MIT OR Apache-2.0 */
 /* The proved library, asked and answered; the force stands in the caller's loop. */
 #include "bench.h"
 

@@ -1,3 +1,4 @@
+// SPDX-License-Identifier: MIT OR Apache-2.0
 //! The module over the stand-in, called from C: the force is inlined into it, as a Rust caller would have it.
 use numeris::Vector;
 

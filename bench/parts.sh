@@ -1,3 +1,4 @@
+# SPDX-License-Identifier: MIT OR Apache-2.0
 # The parts of bench/run and bench/where: building, measuring, printing. $out is the folder of what is built.
 columns='module module-1 plain library'
 

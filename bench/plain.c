@@ -1,3 +1,4 @@
+/* SPDX-License-Identifier: MIT OR Apache-2.0 */
 /* A plain loop with document 01's tests and order of rounding, and no questions: the force stands in the loop. What an engineer
  * would write by hand where a run need not stop, so a measure of what asking and answering costs. */
 #include "bench.h"

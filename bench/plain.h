@@ -1,3 +1,4 @@
+/* SPDX-License-Identifier: MIT OR Apache-2.0 */
 /* Triples for the plain loop, by value and inline. */
 #ifndef PLAIN_H
 #define PLAIN_H

@@ -1,3 +1,4 @@
+/* SPDX-License-Identifier: MIT OR Apache-2.0 */
 /* Between samples, in plain C: document 01's two rules of search, and the quintic in the module's order. */
 #include "bench.h"
 #include "plain.h"

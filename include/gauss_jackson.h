@@ -1,29 +1,56 @@
-/* The proved Gauss-Jackson run, for C and C++: what libapp.a exports (x86-64, System V calling convention).
+/* SPDX-License-Identifier: MIT OR Apache-2.0 */
+/* The proved Gauss-Jackson run, for C and C++. It carries an orbit from t0 to tf; the caller brings the force: there is none inside.
+ * A run asks for accelerations, one question at a time, and the caller answers:
  *
- * A run asks for accelerations, one question at a time; the caller answers. Nothing is allocated, nothing is kept
- * between calls but in the caller's own memory, and no call touches anything that is not named in its arguments.
- *
+ *     gj_settings settings = gj_default_settings();
+ *     settings.samples = 1;                        -- without this no sample is ever written
  *     gj_run run;
- *     gj_reply reply = gj_start(&run, gj_default_settings(), t0, tf, r0, v0);
+ *     gj_reply reply = gj_start(&run, settings, t0, tf, r0, v0);
  *     while (reply.kind == GJ_ASK)
- *         reply = gj_answer(&run, reply.number, force(reply.t, reply.r, reply.v), samples, count);
- *     if (reply.kind == GJ_DONE) ... reply.t, reply.r, reply.v ... else ... reply.refusal ...
+ *         reply = gj_answer(&run, reply.number, force(reply.t, reply.r, reply.v), samples, 10 * (steps + 1));
+ *     if (reply.kind == GJ_DONE) ... reply.t, reply.r, reply.v; reply.steps + 1 samples stand ...
+ *     else ... reply.refusal, in words gj_refusal_text(reply.refusal) ...
  *
- * No machine checks this file against the library's source. tests/abi/run compares sizes, offsets and results.
+ * Names: the project is Idfulzekt, what it offers is called gauss_jackson (this header, libgauss_jackson.a, the Rust crate), gj_ stands
+ * before each of its names in C, and `app` is only the crate of the source that exports them.
+ *
+ * Units: any that go together. The default step of 60 means a minute if times are seconds; then km, km/s and km/s^2, or m, m/s and m/s^2.
+ *
+ * The library, measured by tests/symbols/run and tests/stack/run: x86-64 Linux, System V calls, position-independent; needs memcpy and
+ * memset and nothing else; has no data of its own, so threads may call it at the same time on runs of their own; exports gj_* alone.
+ * Nothing is allocated. A call takes at most 32 KiB of stack: at last count an answer 24,712 bytes in the startup and 18,008 afterwards, a
+ * start 5,432, an open question 3,864, an interpolation under 400.
  *
  * What the caller owes, since no proof reaches it:
  *   - every pointer points to memory of the size said here, aligned to 8 bytes, which nobody else uses during the call;
  *   - a count is the true count of numbers behind its pointer; where it is 0 the pointer is not looked at, and may be null;
- *   - `samples` in gj_settings is 0 or 1, in a run too (a C `bool` that was assigned is so); any other byte is undefined behaviour;
- *   - two arguments of one call never overlap, save where both are only read.
- * Beyond that every value is allowed: NaN, infinities, ended and made-up runs. Each has its answer.
+ *   - two arguments of one call never overlap, save where both are only read;
+ *   - the floating-point environment that a C program starts with: round to nearest, subnormals on, exceptions masked. (A program that is
+ *     linked with -ffast-math may start with subnormals off.)
+ * Beyond valid pointers and counts, and that environment, every value is allowed: NaN, infinities, ended and made-up runs, any byte in
+ * the settings. Each has its answer. No machine checks this file against the library's source; tests/abi/run compares the two.
+ *
+ * What surprises:
+ *   - The force is asked at times outside the span, and not in order: the startup asks from t0-4h to t0+4h (backward too: up to t0+4h, h
+ *     being the step's size), on, back and across again. Drag tables and ephemerides must reach four steps to the other side of t0.
+ *   - A NaN in t0, tf or the step is not refused yet: the run is told as finished after the startup's four steps. Test for it first.
+ *   - A step that is too long is not noticed: the run ends as told, and the orbit is wrong. README has a table.
  */
 #ifndef GAUSS_JACKSON_H
 #define GAUSS_JACKSON_H
 
-#include <stdbool.h>
+#if !defined(GJ_ANY_PLATFORM) && \
+    !(defined(__x86_64__) && defined(__LP64__) && defined(__linux__) && __BYTE_ORDER__ == __ORDER_LITTLE_ENDIAN__)
+#error "gauss_jackson: the library is for 64-bit x86-64 Linux alone. GJ_ANY_PLATFORM lets this header through, for reading or for tests."
+#endif
+
 #include <stddef.h>
 #include <stdint.h>
+
+/* The version, and the number of what is laid down between header and library: it goes up when a size, a place or a call changes. Each is
+ * set here alone. */
+#define GJ_VERSION "0.2.0"
+#define GJ_ABI 1
 
 #ifdef __cplusplus
 #define GJ_HOLDS(fact, said) static_assert(fact, said)
@@ -43,14 +70,15 @@ enum {
 
 /* Refusals. What is left of a run: "no run" and "ended" are one and the same ended run, which answers 7 from then on. */
 enum {
-    GJ_STEP_NOT_FINITE = 1,       /* start: the step is zero, or the span is shorter than eight steps; no run */
-    GJ_MAX_STEPS_EXCEEDED = 2,    /* answer: a further step is due and max_steps are made; ended, the samples stay */
+    GJ_STEP_NOT_FINITE = 1,       /* start: the step is zero, or the span is shorter than eight steps; no run, no sample */
+    GJ_MAX_STEPS_EXCEEDED = 2,    /* answer: a further step is due and max_steps are made; ended. max_steps + 1 samples stand (at least 5) */
     GJ_NO_DENSE_OUTPUT = 3,       /* interpolation: fewer than two samples; the output is untouched */
     GJ_INTERP_OUT_OF_BOUNDS = 4,  /* interpolation: a time outside the samples; the output is untouched, for a batch wholly */
-    GJ_SETTING = 5,               /* start: a setting over its limit; no run */
-    GJ_SAMPLE_ROOM = 6,           /* answer: the samples due now do not all fit; ended, and this call writes none */
-    GJ_NO_QUESTION = 7,           /* answer, open question: the run has ended, or is made up; all unchanged */
-    GJ_NOT_THAT_QUESTION = 8,     /* answer: the number is not the open question's; all unchanged, answer again */
+    GJ_SETTING = 5,               /* start: a setting over its limit; no run, no sample */
+    GJ_SAMPLE_ROOM = 6,           /* answer: the samples due now do not all fit; ended. This call writes none, earlier ones stand: with
+                                     room for n samples at every call n of them, none if n is below 5 */
+    GJ_NO_QUESTION = 7,           /* answer, open question: the run has ended, or is made up; run and samples unchanged */
+    GJ_NOT_THAT_QUESTION = 8,     /* answer: the number is not the open question's; run and samples unchanged, answer again */
     GJ_SHAPE = 9                  /* interpolation: samples not in tens, or output below 6 numbers a time; untouched */
 };
 
@@ -81,7 +109,7 @@ typedef struct gj_settings {
     uint64_t max_corrector_iters;  /* 2, at most 100 */
     uint64_t max_startup_iters;    /* 12, at most 100 */
     uint64_t max_steps;            /* 1,000,000, at most 1,000,000 */
-    bool samples;                  /* false: no samples, and the sample buffer is not looked at */
+    uint8_t samples;               /* 0: no samples, and the sample buffer is not looked at; 1: samples; above 1 is refusal 5 */
 } gj_settings;
 GJ_SIZE(gj_settings, 56);
 GJ_AT(gj_settings, h, 0);
@@ -124,7 +152,8 @@ gj_settings gj_default_settings(void);
 gj_reply gj_start(gj_run *run, gj_settings settings, double t0, double tf, gj_triple r0, gj_triple v0);
 
 /* The answer to question `number`: the acceleration `a` at the question's time, position and velocity. The run moves on
- * where it stands. Refusals 7, 8, 6, 2, judged in this order.
+ * where it stands. Refusals 7, 8, 6, 2, judged in this order. An answer exactly 65,536 questions late has the open question's number and
+ * is not noticed.
  *
  * `out` is the sample buffer, `count` its numbers; it is the caller's, lent for the call. With samples, sample n goes to
  * numbers 10n to 10n+9 of it (counted from `out` at every call), and nothing else of it is written. Samples 0 to 4 come with the
@@ -136,13 +165,17 @@ gj_reply gj_answer(gj_run *run, uint16_t number, gj_triple a, double *out, size_
 gj_reply gj_open_question(const gj_run *run);
 
 /* Position and velocity at time t between the samples: 6 numbers to `out`. `samples` has `n` numbers, ten a sample, as gj_answer
- * wrote them; `out` has room for `m`. Gives 0, or refusal 9, 3 or 4, and then nothing is written. A NaN time gives six NaN. */
+ * wrote them; `out` has room for `m`. Gives 0, or refusal 9, 3 or 4, and then nothing is written. A NaN time gives six NaN.
+ * It looks at the samples one after the other from the first, at six instructions each, so on a long table a late time is dear (three
+ * million at the end of a year of minutes): pass the part of the table around the time, two samples are enough, or take the batch. */
 uint32_t gj_interpolate(double t, const double *samples, size_t n, double *out, size_t m);
 
 /* The same for `k` times, in the order in which the run went: 6 numbers a time, the first six for the first time. Nothing is written
- * unless every time lies within the samples. The search never goes back: a time before the one before it is read off a
- * later curve. */
+ * unless every time lies within the samples. The search goes once through the table and never back: a time out of order gets a
+ * meaningless number, read off a later curve, and no refusal. Sort the times first. */
 uint32_t gj_interpolate_batch(const double *times, size_t k, const double *samples, size_t n, double *out, size_t m);
+
+#include "gauss_jackson_help.h" /* gj_refusal_text; and that this header and the library linked are of one GJ_ABI */
 
 #undef GJ_AT
 #undef GJ_SIZE

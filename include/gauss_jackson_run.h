@@ -1,3 +1,4 @@
+/* SPDX-License-Identifier: MIT OR Apache-2.0 */
 /* The run, as it lies in memory. Part of gauss_jackson.h; an app has no need to look inside.
  *
  * It is plain data, without pointers: it may be copied, kept and answered again. A copy is a line of answers of its own.

@@ -1,3 +1,4 @@
+// SPDX-License-Identifier: MIT OR Apache-2.0
 //! Finds the Rust module, which stays where it is and is compiled unchanged: at GAUSS_JACKSON_RS, or else among the
 //! documents beside the project.
 use std::{env, fs, path::PathBuf};

@@ -1,3 +1,4 @@
+// SPDX-License-Identifier: MIT OR Apache-2.0
 // The settings as the module has them; included where `Settings` and `GJSettings` are in scope.
 fn settings(s: &Settings) -> GJSettings<f64> {
     GJSettings {

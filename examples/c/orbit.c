@@ -1,15 +1,13 @@
+/* SPDX-License-Identifier: MIT OR Apache-2.0 */
 /* An orbit 400 km up, carried forward for a day in one-minute steps, and read off between the steps.
  *
  *   orbit           prints a table
+ *   orbit --csv     prints every sample, for other programs
  *   orbit --bits    prints every sample, the finished state and the table's values by their bits, for comparison
  *
  * GJ_DENSE 0 builds it for a library without interpolation: the table then stands at samples.
  */
-#include "gauss_jackson.h"
-
-#include <math.h>
-#include <stdio.h>
-#include <string.h>
+#include "flight.h"
 
 #ifndef GJ_DENSE
 #define GJ_DENSE 1
@@ -17,10 +15,7 @@
 
 enum { STEPS = 1440, ROWS = 24, NUMBERS = GJ_SAMPLE_NUMBERS * (STEPS + 1) };
 
-static const double DAY = 86400.0, MU = 398600.4418, RADIUS = 6778.137, EARTH = 6378.137;
-static const double COS_INCLINATION = 0.6211477802783103, SIN_INCLINATION = 0.7836934573258398; /* of 51.6 degrees */
-
-static double distance(gj_triple r) { return sqrt((r.x * r.x + r.y * r.y) + r.z * r.z); }
+static const double DAY = 86400.0, RADIUS = 6778.137;
 
 /* The Earth as a point: each operation rounded once, in this order, so that another program can give the same bits. */
 static gj_triple force(gj_triple r) {
@@ -33,7 +28,7 @@ static gj_reply carry_forward(double *samples) {
     double speed = sqrt(MU / RADIUS);
     gj_triple r0 = {RADIUS, 0.0, 0.0}, v0 = {0.0, speed * COS_INCLINATION, speed * SIN_INCLINATION};
     gj_settings settings = gj_default_settings();
-    settings.samples = true;
+    settings.samples = 1;
     gj_run run;
     gj_reply reply = gj_start(&run, settings, 0.0, DAY, r0, v0);
     while (reply.kind == GJ_ASK)
@@ -102,16 +97,25 @@ static void print_all_bits(gj_reply end, const double *samples, const double *ro
     }
 }
 
+static void print_samples(const double *samples) {
+    puts("t_s,x_km,y_km,z_km,vx_km_s,vy_km_s,vz_km_s,ax_km_s2,ay_km_s2,az_km_s2");
+    for (int n = 0; n <= STEPS; n++) print_csv(samples + GJ_SAMPLE_NUMBERS * n, GJ_SAMPLE_NUMBERS);
+}
+
 int main(int argc, char **argv) {
     static double samples[NUMBERS], rows[GJ_BETWEEN_NUMBERS * ROWS];
+    int csv = has_word(argc, argv, "--csv"), bits = has_word(argc, argv, "--bits");
+    if (csv < 0 && bits < 0) {
+        fprintf(stderr, "usage: orbit [--csv | --bits]\n");
+        return 2;
+    }
     gj_reply end = carry_forward(samples);
     uint32_t refusal = end.kind == GJ_DONE ? read_off(samples, rows) : end.refusal;
-    if (refusal != 0) {
-        fprintf(stderr, "refusal %u\n", (unsigned)refusal);
-        return 1;
-    }
-    if (argc == 2 && strcmp(argv[1], "--bits") == 0)
+    if (refusal != 0) return tell_refusal(refusal);
+    if (bits == 1)
         print_all_bits(end, samples, rows);
+    else if (csv == 1)
+        print_samples(samples);
     else
         print_table(end, rows);
     return 0;

@@ -1,3 +1,4 @@
+// SPDX-License-Identifier: MIT OR Apache-2.0
 //! Cases: random ones from a seed, and the stored list.
 use crate::force::Force;
 use crate::random::Random;

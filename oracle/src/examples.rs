@@ -1,3 +1,4 @@
+// SPDX-License-Identifier: MIT OR Apache-2.0
 //! 01's "Examples at the edges", run on the module: what 01's text and counting give beside what the module does.
 use crate::cases::plain;
 use crate::force::{Source, V3};

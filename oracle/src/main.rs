@@ -1,3 +1,4 @@
+// SPDX-License-Identifier: MIT OR Apache-2.0
 //! The judge that nobody here wrote: the Rust module itself, run on cases and printing what it asked and answered.
 //!
 //!   oracle run              cases on standard input, transcripts on standard output

@@ -1,3 +1,4 @@
+// SPDX-License-Identifier: MIT OR Apache-2.0
 //! The orbit of examples/, on the module: a day 400 km up in one-minute steps, every sample, the finished state, and an hourly time
 //! between samples, by their bits. The force's operations stand in the order in which the examples have them.
 use crate::force::V3;

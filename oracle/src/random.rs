@@ -1,3 +1,4 @@
+// SPDX-License-Identifier: MIT OR Apache-2.0
 //! A small generator (SplitMix64), so that a seed gives the same cases everywhere.
 pub struct Random(pub u64);
 

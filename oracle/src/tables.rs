@@ -1,3 +1,4 @@
+// SPDX-License-Identifier: MIT OR Apache-2.0
 //! Tables of samples, and times asked between them: random ones from a seed, and those of the stored list.
 use crate::cases::{component, SPECIAL};
 use crate::random::Random;

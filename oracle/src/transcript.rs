@@ -1,3 +1,4 @@
+// SPDX-License-Identifier: MIT OR Apache-2.0
 //! Cases in, transcripts out: the format that `crates/replay` speaks too.
 use crate::force::{Force, Source, NAMES, V3};
 use crate::gauss_jackson::{GJDenseOutput, GJSettings, GaussJackson8};

@@ -1,3 +1,4 @@
+/* SPDX-License-Identifier: MIT OR Apache-2.0 */
 /* What the parts of the test share: a check that is counted, and one that names what failed. */
 #ifndef ABI_H
 #define ABI_H
@@ -17,7 +18,7 @@ static inline void check(int holds, const char *what) {
 
 /* 0 to 8 in steps of 1, one pass each, tolerances 0, no samples: 57 answers. */
 static inline gj_settings plain(void) {
-    gj_settings s = {1.0, 0.0, 0.0, 1, 1, 1000000, false};
+    gj_settings s = {1.0, 0.0, 0.0, 1, 1, 1000000, 0};
     return s;
 }
 
@@ -30,10 +31,13 @@ static inline gj_reply play(gj_run *run, gj_reply reply, double *out, size_t cou
     return reply;
 }
 
+static inline int refused(gj_reply reply, int refusal) { return reply.kind == GJ_REFUSED && reply.refusal == refusal; }
+
 void layout_of_settings(void);
 void layout_of_replies(void);
 void layout_of_runs(void);
 void results(void);
+void promises(void);
 int wrapper_failures(void);
 
 #endif

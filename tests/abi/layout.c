@@ -1,3 +1,4 @@
+/* SPDX-License-Identifier: MIT OR Apache-2.0 */
 /* Where the library itself puts and takes each field of the records that a caller fills or reads, against sizeof and offsetof.
  * Nothing of the header's layout is used to find a place: a known value goes in, and the bytes are searched for it. */
 #include "abi.h"
@@ -32,7 +33,7 @@ void *seen_default_settings(void *) __asm__("gj_default_settings");
 void *seen_start(void *, gj_run *, gj_settings, double, double, gj_triple, gj_triple) __asm__("gj_start");
 void *seen_answer(void *, gj_run *, uint16_t, gj_triple, double *, size_t) __asm__("gj_answer");
 
-static const gj_settings ODD = {61.25, 0x1p-40, 0x1p-41, 3, 11, 777777, true};
+static const gj_settings ODD = {61.25, 0x1p-40, 0x1p-41, 3, 11, 777777, 1};
 
 /* As results, by the defaults; as arguments, by what a start keeps of them. */
 void layout_of_settings(void) {

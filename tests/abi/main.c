@@ -1,3 +1,5 @@
+/* SPDX-License-Identifier: MIT OR Apache-2.0 */
+/* GJ_RUST 0 leaves out the Rust crate. */
 #include "abi.h"
 
 int checks, failures;
@@ -7,8 +9,11 @@ int main(void) {
     layout_of_replies();
     layout_of_runs();
     results();
+    promises();
+#if GJ_RUST
     failures += wrapper_failures();
-    printf("%d checks of the C header%s, %d failed (the Rust crate's too)\n", checks,
-           GJ_DENSE ? "" : ", interpolation left out", failures);
+#endif
+    printf("%d checks of the C header%s, %d failed%s\n", checks, GJ_DENSE ? "" : ", interpolation left out", failures,
+           GJ_RUST ? " (the Rust crate's too)" : "");
     return failures != 0;
 }

@@ -1,3 +1,4 @@
+/* SPDX-License-Identifier: MIT OR Apache-2.0 */
 /* What the calls give through the header: counts and refusals that document 01 names, buffers with and without room. */
 #include "abi.h"
 
@@ -8,8 +9,6 @@ static gj_reply from_to(gj_run *run, gj_settings s, double t0, double tf) {
     gj_triple r0 = {1, 2, 3}, v0 = {0, 1, 0};
     return gj_start(run, s, t0, tf, r0, v0);
 }
-
-static int refused(gj_reply reply, int refusal) { return reply.kind == GJ_REFUSED && reply.refusal == refusal; }
 
 static void check_count(gj_settings s, double tf, unsigned evals, unsigned steps, const char *what) {
     gj_run run;
@@ -33,7 +32,7 @@ static void counts(void) {
     check_count(s, 8.0, 53, 8, "a wide corrector tolerance: one answer a step");
     s = plain(), s.h = -2.0;
     check_count(s, 17.0, 61, 9, "0 to 17 by 2: 61 answers");
-    s.samples = true;
+    s.samples = 1;
     check_count(s, 17.0, 62, 9, "with samples: 62 answers");
 }
 
@@ -76,13 +75,13 @@ static void sample_room(void) {
     gj_run run;
     double out[100];
     gj_settings s = plain();
-    s.samples = true;
+    s.samples = 1;
     out[90] = 12345.0;
     check(play(&run, from_to(&run, s, 0.0, 8.0), out, 90, 1000).kind == GJ_DONE, "room for nine samples");
     check(out[0] == 0.0 && out[40] == 4.0 && out[80] == 8.0 && out[90] == 12345.0, "samples stand in tens, nothing past them");
     check(refused(play(&run, from_to(&run, s, 0.0, 8.0), out, 89, 1000), GJ_SAMPLE_ROOM), "one number short: refusal 6");
     check(refused(play(&run, from_to(&run, s, 0.0, 8.0), 0, 0, 1000), GJ_SAMPLE_ROOM), "no buffer at all: refusal 6");
-    s.samples = false;
+    s.samples = 0;
     check(play(&run, from_to(&run, s, 0.0, 8.0), 0, 0, 1000).kind == GJ_DONE, "no buffer, no samples");
 }
 

@@ -1,3 +1,4 @@
+/* SPDX-License-Identifier: MIT OR Apache-2.0 */
 /* Where the library keeps each field of a run. Whether a field means what the header says is seen by what stands there at a known
  * waiting point, and, for the sums of an open step, by what a change of it does to the next question. */
 #include "abi.h"
@@ -100,7 +101,7 @@ static void at_the_tail(void) {
     double out[110];
     gj_settings s = plain();
     gj_triple r0 = {1, 2, 3};
-    s.h = 2.0, s.samples = true;
+    s.h = 2.0, s.samples = 1;
     play(&run, gj_start(&run, s, 0.0, 17.0, r0, r0), out, 110, 59);
     check_mark(&run, 7, 0, 2, 59, "the tail's third question");
     play(&run, gj_open_question(&run), out, 110, 2);

@@ -1,3 +1,4 @@
+// SPDX-License-Identifier: MIT OR Apache-2.0
 //! The safe crate over the real library: counts, states and every refusal that it can meet there.
 use gauss_jackson::{numbers_for, Refusal, Reply, Run, Settings, Triple};
 

@@ -1,3 +1,4 @@
+// SPDX-License-Identifier: MIT OR Apache-2.0
 //! Random tables in order, forward and backward, and times between, at, and outside their samples: both interpolations, and their refusals.
 use crate::check::{holds, Verdict};
 use crate::force::V3;

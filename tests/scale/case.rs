@@ -1,3 +1,4 @@
+// SPDX-License-Identifier: MIT OR Apache-2.0
 //! A case, read from its line (the format is in the oracle).
 use crate::force::{Force, NAMES};
 use crate::raw::{Settings, Triple};

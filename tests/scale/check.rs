@@ -1,3 +1,4 @@
+// SPDX-License-Identifier: MIT OR Apache-2.0
 //! What a comparison says, and comparing floats: bits for bits, all NaN alike. A text is only put together where it is needed.
 use std::fmt::Display;
 

@@ -1,3 +1,4 @@
+// SPDX-License-Identifier: MIT OR Apache-2.0
 //! Whether a run is one that a line of answers could have left, by its counts alone: docs/DECISIONS.md, "The counting at each waiting point",
 //! written down here from its table and for wide numbers, apart from the library.
 use crate::raw::Run;
@@ -84,6 +85,9 @@ pub fn is_sound(run: &Run) -> bool {
     let b = bytes(run);
     let (at, i, s) = (b[places::AT], u128::from(b[places::INDEX]), u128::from(b[places::STAGE]));
     let c = counts_of(run);
+    if b[places::SAMPLES] > 1 {
+        return false;
+    }
     if c.corrector > 100 || c.startup > 100 || c.max_steps > 1_000_000 || u128::from(number(run)) != c.e % 65536 || s > 3 {
         return false;
     }

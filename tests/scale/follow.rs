@@ -1,3 +1,4 @@
+// SPDX-License-Identifier: MIT OR Apache-2.0
 //! A case on the library, question by question beside the module's record.
 use crate::case::Case;
 use crate::check::{all_same, holds, same, Verdict};

@@ -1,3 +1,4 @@
+// SPDX-License-Identifier: MIT OR Apache-2.0
 //! The module and the library in one process, on the same cases: every question, sample, state, count and refusal, and every byte of the
 //! buffers, written and not written. Cases come on standard input, as `oracle cases` writes them; the tampering comes from a seed.
 #[path = "../../oracle/src/force.rs"]

@@ -1,3 +1,4 @@
+/* SPDX-License-Identifier: MIT OR Apache-2.0 */
 /* scale COUNT SEED SECONDS: a C main, since a Rust one cannot be linked whole everywhere. */
 #include <stdint.h>
 #include <stdlib.h>

@@ -1,3 +1,4 @@
+// SPDX-License-Identifier: MIT OR Apache-2.0
 //! What the module asks and gives in a case.
 use crate::case::Case;
 use crate::check::all_same;

@@ -1,3 +1,4 @@
+// SPDX-License-Identifier: MIT OR Apache-2.0
 //! A lent buffer between two guard zones, filled with a pattern, and what is expected to stand there.
 use crate::check::{all_same, holds, Verdict};
 use crate::random::Random;

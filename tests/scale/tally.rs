@@ -1,3 +1,4 @@
+// SPDX-License-Identifier: MIT OR Apache-2.0
 //! What was compared, counted.
 #[derive(Default)]
 pub struct Tally {

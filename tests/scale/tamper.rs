@@ -1,3 +1,4 @@
+// SPDX-License-Identifier: MIT OR Apache-2.0
 //! What goes wrong in a caller's hands: stale numbers, damaged and short rooms, runs answered twice, runs made up.
 use crate::check::{all_same, holds, Verdict};
 use crate::counting::{self, places};
@@ -76,7 +77,7 @@ fn alter(run: &mut Run, rng: &mut Random) {
         2 => counting::bytes_mut(run)[places::STAGE] = rng.below(6) as u8,
         3 => counting::bytes_mut(run)[rng.below(3) as usize] = rng.bits() as u8,
         4 => counting::bytes_mut(run)[places::NUMBER] ^= 1 + rng.below(255) as u8,
-        5 => counting::bytes_mut(run)[places::SAMPLES] ^= 1,
+        5 => counting::bytes_mut(run)[places::SAMPLES] = rng.pick(&[0, 1, 2, 3, 255]),
         6 => run.0[places::EVALS / 8] = was.wrapping_add(65536 * (1 + rng.below(3))),
         7 | 8 => shift_answers(run, rng),
         9 => run.0[place / 8] = rng.pick(&[0, 4, 100, 101, 999_999, 1_000_000, 1_000_001, u64::MAX, 1 << 63]),

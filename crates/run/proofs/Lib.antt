@@ -2,4 +2,5 @@ pub mod Decoding
 pub mod Counts
 pub mod Moving
 pub mod Placing
+pub mod Resting
 pub mod OpenStep

@@ -66,12 +66,15 @@ fn is_still(tol: f64, before: Triple, after: Triple) -> bool
     after.minus(before).size() / (after.size() + 1.0e-30) < tol
 }
 
-// Whether the passes of a step stop: both position and velocity are still.
+// Whether the passes of a step stop: both position and velocity are still. Beside a tolerance that is not above zero nothing is, whatever
+// the sizes.
 pub fn is_at_rest(tol: f64, before: State, after: State) -> bool
     ensures { λ b. ⌜ b ≡ isAtRest tol before after ⌝ }
 {
-    if is_still(tol, before.r, after.r) {
-        return is_still(tol, before.v, after.v);
+    if tol > 0.0 {
+        if is_still(tol, before.r, after.r) {
+            return is_still(tol, before.v, after.v);
+        }
     }
     false
 }

@@ -3,5 +3,6 @@ pub mod Values
 pub mod Exact
 pub mod Quotient
 pub mod Short
+pub mod Signs
 pub mod Integers
 pub mod Along

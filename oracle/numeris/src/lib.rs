@@ -1,3 +1,4 @@
+// SPDX-License-Identifier: MIT OR Apache-2.0
 //! A stand-in for numeris, written from document 01: operations component by component, each product and each sum
 //! rounded once, division a true division, and `scaled_norm` the size that 01 chose in its place. It is not numeris.
 use std::ops::{Add, AddAssign, Div, Index, Mul, Neg, Sub};

@@ -1,3 +1,4 @@
+// SPDX-License-Identifier: MIT OR Apache-2.0
 //! The module derives serde's two traits on its samples. Serialisation is not carried over, so both derives make nothing.
 use proc_macro::TokenStream;
 

@@ -1,0 +1,5 @@
+/* SPDX-License-Identifier: MIT OR Apache-2.0 */
+#ifndef BARE_UNISTD_H
+#define BARE_UNISTD_H
+int isatty(int file);
+#endif
