@@ -18,6 +18,7 @@ class Context:
         self.open += 1
 
     def front(self, *names):
+        assert all(self.names.count(n) == 1 for n in names), names
         where = [self.at(n) for n in names]
         self.names = list(names) + [n for n in self.names if n not in names]
         if where != list(range(len(where))):
@@ -49,10 +50,6 @@ class Context:
 
     def note(self, text):
         self.say('\n        -- ' + text + '\n       ')
-
-    def copy(self):
-        other = Context(self.names)
-        return other
 
     def text(self):
         out = ''

@@ -5,10 +5,13 @@
 Parts of the lent struct are read for `L`; each way out has the struct and the buffer, and no other."""
 import re
 from context import Context
-from frame import FLOATS, Callee, Frame
-from parts import Part, give_all, inner_facts, operands
+from frame import Frame
+from forked import Forked
+from params import Callee
+from parts import Part, give_all, inner_facts
 from rows import nth, numbers, product_of, tuple_of
 from sources import Refused
+from steps import Call, assign, close_lent, hand_over, init, lend_slice, open_lent, read_part
 
 LOOK = re.compile(r'let look = ([\w:]+)\((.*?)\);', re.S)
 TEST = re.compile(r'if look\.(\w+) \{\n\s*return ([\w:]+)\((.*?)\);\n\s*\}', re.S)
@@ -25,7 +28,7 @@ class Way:
         return self.callee.args
 
 
-class Fork(Frame):
+class Fork(Forked, Frame):
     gives_lent = True
 
     def __init__(self, sources, function, description):
@@ -47,7 +50,6 @@ class Fork(Frame):
         self.made = {i: self.look_at + 1 + k for k, i in enumerate(made)}
         self.test = self.look_at + 1 + len(made)
         self.count = self.test + 1 + 3 * len(self.ways)
-        self.local = {p.name: i + 1 for i, p in enumerate(self.params)}
 
     def callees(self):
         return [self.look] + [w.callee for w in self.ways]
@@ -62,44 +64,7 @@ class Fork(Frame):
     def story(self):
         return f'Parts of the struct that is lent are read and passed to `{self.look.f.name}`, and by its answer the struct and the buffer are handed on to one of {len(self.ways)} functions.'
 
-    # ---- the code
-    def lends(self, k):
-        """The locals that way k has for the struct and the buffer."""
-        return tuple(self.test + 1 + 3 * k + i for i in range(3))
-
-    def handed(self, k):
-        ref, _, both = self.lends(k)
-        return [{self.lent.name: ref, self.out.name: both, 'look': self.look_at}.get(n) or self.local[n] for n in self.ways[k].names()]
-
-    def way_code(self, k):
-        ref, to, both = self.lends(k)
-        at, out = self.local[self.lent.name], self.local[self.out.name]
-        given = ''.join(f'copy (place {i} []) ∷ ' for i in self.handed(k))
-        return seqs([f'(assign (place {ref} []) (addrOf (place {at} (deref {self.lent.row.machine} ∷ []))))', f'(assign (place {to} []) (addrOf (place {out} (field 0 ∷ deref {FLOATS} ∷ []))))',
-                     f'(assign (place {both} []) (aggregate (copy (place {to} []) ∷ copy (place {out} (field 1 ∷ [])) ∷ [])))', f'(call {self.ways[k].callee.key} ({given}[]) (place 0 []))'], 'return')
-
-    def test_code(self, k):
-        at = [n for n, _ in self.rows.fields(self.look.f.result)].index(self.ways[k].field)
-        return [f'(assign (place {self.test} []) (rvOpd (copy (place {self.look_at} (field {at} ∷ [])))))', f'(cond (copy (place {self.test} [])) {self.way_code(k)} skip)']
-
-    def code(self):
-        types = [self.result.machine] + [p.local() for p in self.params] + [self.seen.machine]
-        types += [self.args[i].row.machine if isinstance(self.args[i], Part) else '(tyInt w64)' for i in self.made] + ['tyBool']
-        types += [f'(tyRef erased mut (tyNamed ({self.lent.type}′.struct .name, [])))', f'(tyRef erased mut {FLOATS})', f'(τ-slice erased {FLOATS})'] * len(self.ways)
-        self.types, last = types, len(self.ways) - 1
-        out = ['-- what is left once so many tests fail', f'abbrev rest-{last} : Code', f'rest-{last} = {self.way_code(last)}', '']
-        for k in reversed(range(1, last)):
-            out += [f'abbrev rest-{k} : Code', f'rest-{k} = {seqs(self.test_code(k), f"rest-{k + 1}")}', '']
-        body = []
-        for i, a in enumerate(self.args):
-            if isinstance(a, Part):
-                body.append(f'(assign (place {self.made[i]} []) (rvOpd (copy (place {self.local[self.lent.name]} (deref {self.lent.row.machine} ∷ {a.place()}[])))))')
-            elif isinstance(a, str):
-                body.append(f'(assign (place {self.made[i]} []) (rvOpd (copy (place {self.local[self.out.name]} (field 1 ∷ [])))))')
-        given = ''.join(f'copy (place {self.made[i] if i in self.made else self.local[a.name]} []) ∷ ' for i, a in enumerate(self.args))
-        body.append(f'(call {self.look.key} ({given}[]) (place {self.look_at} []))')
-        return out + self.walked(types, seqs(body + self.test_code(0), 'rest-1'))
-
+    # ---- what is known
     def about(self):
         inner = {a.fields[0] for a in self.args if isinstance(a, Part) and len(a.fields) == 2}
         return ['holds : (b : Bool) → T b → b ≡ true', 'holds true t = refl', 'holds false t = absurd t', '', '-- what is known of the lent struct\'s parts'] + inner_facts(self.lent, self.rows, inner)
@@ -129,18 +94,17 @@ class Fork(Frame):
 
     def goes_look(self):
         g, lent, c = self.look, self.lent, Context(['acc'])
-        for a in reversed(self.args):
-            if isinstance(a, str):
-                c.say(self.rows.of('usize').owned(a, f'(refl, {self.out.v}-room .0)'))
-            else:
-                c.say(a.row.owned(self.value(a), a.known() if isinstance(a, Part) else f'{a.v}-is'))
-            c.say('fjoin !')
-        c.say('nothing !', 'join !', 'frame !', 'done !')
+        hand_over(c, [(None, self.owning(a)) for a in self.args], [])
         held = tuple_of([self.value(a) for a in self.args])
         return ["  -- what each callee's triple binds outside", f'  abbrev to-{g.tag} : {g.contract()} 𝓤 H A at-mem run-of .Ghost',
                 f'  to-{g.tag} = ((tt, tt, tt, {held}, {tuple_of([self.machine(a) + " ∷ []" for a in self.args])}), tt)', '',
                 f'  goes-{g.tag} : ({lent.v}-is : {lent.row.is_of(lent.v)}) → ent 𝓤 (⋆ 𝓤 H A ((‵ ftrue) ∷ [])) ({g.contract()} 𝓤 H A at-mem run-of .pre to-{g.tag})',
                 f'  goes-{g.tag} {lent.v}-is =', f'      qed W ((‵ ftrue) ∷ []) ∵ {c.text()}', '']
+
+    def owning(self, a):
+        if isinstance(a, str):
+            return self.rows.of('usize').owned(a, f'(refl, {self.out.v}-room .0)')
+        return a.row.owned(self.value(a), a.known() if isinstance(a, Part) else f'{a.v}-is')
 
     def goes(self, k):
         way, g, lent, out = self.ways[k], self.ways[k].callee, self.lent, self.out
@@ -152,19 +116,7 @@ class Fork(Frame):
             c.front('all')
             c.say('split !')
             c.become(1, name, 'all' if i < len(names) - 2 else names[-1])
-        c.add('acc', 'nothing !')
-        for n in reversed(way.names()):
-            if n in (lent.name, out.name):
-                c.front(f'p:{n}', 'acc')
-            else:
-                c.add('this', self.seen.owned('l', 'l-is') if n == 'look' else self.by_name[n].row.owned(self.by_name[n].v, f'{self.by_name[n].v}-is'))
-            c.say('fjoin !')
-            c.become(2, 'acc')
-        c.add('tok', 'nothing !')
-        for p in reversed(self.refs):
-            c.join_on(f'l:{p.name}')
-        c.front('tok', 'acc')
-        c.say('join !', 'frame !', 'done !')
+        hand_over(c, [self.handing(n) for n in way.names()], self.refs)
         values = tuple_of([(self.seen.value('l') if n == 'look' else self.by_name[n].value()) + ' ∷ []' for n in way.names()])
         binds, taken = (f'(l : {self.seen.denotes}) → ', ' l') if looks else ('', '')
         known, names = (f'(l : {self.seen.denotes}) (l-is : {self.seen.is_of("l")}) → ', ' l l-is') if looks else ('', '')
@@ -172,105 +124,61 @@ class Fork(Frame):
                 f'  goes-{g.tag} : {known}ent 𝓤 (⋆ 𝓤 H A (({one}) ∷ [])) ({g.contract()} 𝓤 H A at-mem run-of .pre (to-{g.tag}{taken}))', f'  goes-{g.tag}{names} =',
                 f'      qed W (({one}) ∷ []) ∵ {c.text()}', '']
 
+    def handing(self, name):
+        if name == 'look':
+            return None, self.seen.owned('l', 'l-is')
+        p = self.by_name[name]
+        return (None, p.row.owned(p.v, f'{p.v}-is')) if p.kind == 'plain' else (f'p:{name}', None)
+
     # ---- the exit
     def left(self):
         return [(f'l:{p.name}', self.token(p)) for p in self.refs] + [
-            ('res', f'‵ (fres γ-{self.lent.v} ({self.lent.row.row} .coded .code z-{self.lent.v}))'), ('fin', f'‵ (finally f64 γ-{self.out.v} z-{self.out.v})')]
+            ('res', f'‵ (fres γ-{self.lent.v} ({self.lent.row.row} .coded .code z-{self.lent.v}))'), (f'fin:{self.out.name}', f'‵ (finally f64 γ-{self.out.v} z-{self.out.v})')]
 
     def exit(self):
         r, lent, out = self.result, self.lent, self.out
         items = ' ∷ '.join(t for _, t in self.left()) + ' ∷ []'
-        c, value = Context([n for n, _ in self.left()]), r.value('r')
-        last = tuple_of([f'z-{p.v}' if p in self.refs else 'tt' for p in self.params])
-        same = tuple_of([f'l-{p.v}' if p.kind == 'slice' else 'tt' for p in self.params])
-        c.say(f'suffices ! _ (ends-at 𝓤 H A f.ended stayed (f.clauses 𝓤 H A at-mem run-of) W {self.bound()} {value} r {last} {same})', 'says ! e')
-        c.add('tok', 'nothing !')
-        for p in reversed(self.refs):
-            c.join_on(f'l:{p.name}')
-        c.say('frame !')
-        c.become(1)
-        c.add('acc', 'nothing !')
-        for p in reversed(self.params):
-            if p.kind == 'plain':
-                c.add('this', p.row.owned(p.v, f'{p.v}-is'))
-            else:
-                c.front('fin' if p.kind == 'slice' else 'res', 'acc')
-            c.say('fjoin !')
-            c.become(2, 'acc')
-        c.say(r.owned('r', 'is'), 'move ! (1 ∷ 0 ∷ [])', 'done !')
+        c = Context([n for n, _ in self.left()])
+        self.leaves(c, 'r', lambda p: f'z-{p.v}', 'e', lambda c, p: c.front('res', 'acc'))
         fact = self.fact(len(self.ways) - 1, f'z-{lent.v}', f'z-{out.v}')
-        return [f'  exits : (r : {r.denotes}) (z-{lent.v} : {lent.row.denotes}) (z-{out.v} : List Float) → {fact} → length z-{out.v} ≡ length {out.v} → {r.is_of("r")} → ent 𝓤 (⋆ 𝓤 H A ({items})) (Post {value})',
-                f'  exits r z-{lent.v} z-{out.v} e l-{out.v} is =', f'      qed W ({items}) ∵', '      ' + c.text(), '']
+        statement = f'(r : {r.denotes}) (z-{lent.v} : {lent.row.denotes}) (z-{out.v} : List Float) → {fact} → length z-{out.v} ≡ length {out.v} → {r.is_of("r")} → ent 𝓤 (⋆ 𝓤 H A ({items})) (Post {r.value("r")})'
+        return self.exits(statement, f'r z-{lent.v} z-{out.v} e l-{out.v} is', items, c)
 
     # ---- the walk
     def walking(self):
         self.code()
         c = Context([n for i in reversed(range(self.count)) for n in (f'_{i}', f'd{i}')] + ['tok', 'owns'])
-        self.entry(c, self.count)
+        self.entry(c)
         self.read_parts(c)
-        self.call_look(c)
+        self.seeing = self.call_look(c)
         c.say(self.ways_from(0, c.names))
-        env = f'({" ".join(["En"] + [f"l-{i}" for i in range(self.count)])})'
-        extra = [f'    abbrev En : {" → ".join(["ℕ"] * self.count)} → Env 𝓤 H', f'    {env[1:-1]} = ' + ' ∷ '.join(f'({t}, l-{i})' for i, t in enumerate(self.types)) + ' ∷ []', '']
+        extra = [f'    abbrev En : {" → ".join(["ℕ"] * self.count)} → Env 𝓤 H', f'    {self.env()[1:-1]} = ' + ' ∷ '.join(f'({t}, l-{i})' for i, t in enumerate(self.types)) + ' ∷ []', '']
         return self.walk(c, self.count, extra)
 
+    def env(self):
+        return f'({" ".join(["En"] + [f"l-{i}" for i in range(self.count)])})'
+
     def read_parts(self, c):
-        p, row, cell = self.lent, self.lent.row, f'b-{self.lent.v} o-{self.lent.v}'
         c.note('the borrow of the struct is opened, parts of it are read, and it is closed as it was')
-        c.front(f'p:{p.name}')
-        c.say('fsplit3 !', 'drop !')
-        c.become(1, 'obs', 'bor')
-        c.front('obs', 'bor', f'l:{p.name}')
-        c.bind(f'opens ! tt {row.row} {{h = {p.v}}} {cell} (λ vs. spelt ! {row.laws()} ({row.vals}) ({row.tells}) fullShare {p.v} vs {cell}')
-        c.become(3, 'cell', 'own', 'obor', 'obs', 'auth')
-        c.front('own')
-        c.bind(f'peeks ! {row.laws()} {p.v} ({row.value(p.v)} ∷ []) (λ {p.v}-is. drop !')
-        c.become(2, 'cell')
-        c.say(f'use1 W (‵ (fat fullShare {row.machine} {cell} {row.value(p.v)})) (W .laws .raw-at fullShare {row.machine} {cell} {row.value(p.v)})')
+        open_lent(c, self.lent)
         for i, a in enumerate(self.args):
             if isinstance(a, Part):
-                c.say(f'assigns ! (of-opd ! (load ! (from ! (hop ! (look ! {c.at(f"_{self.local[p.name]}")} refl) {a.way()})) (look-in ! {c.at("cell")} {a.within()}))) (from ! (stop !)) (init ! {c.at(f"_{self.made[i]}")} refl {a.row.typed(a.value(), a.known())})')
+                read_part(c, a, self.made[i])
             elif isinstance(a, str):
-                c.say(f'assigns ! (of-opd ! (load ! (from ! (fld ! refl (stop !))) (look-in ! {c.at(f"_{self.local[self.out.name]}")} (sub ! 1 refl (whole !))))) (from ! (stop !)) (init ! {c.at(f"_{self.made[i]}")} refl (tt, record {{ fits = {self.out.v}-room .0 }}))')
-        c.front('cell')
-        c.say(f'use1 W (‵ (fat fullShare (rawTy {row.machine}) {cell} {row.value(p.v)})) (W .laws .at-raw fullShare {row.machine} {cell} {row.value(p.v)})')
-        c.add('new', row.owned(p.v, f'{p.v}-is'))
-        c.front('cell', 'new', 'obor', 'obs', 'auth')
-        c.say(f'closes ! tt {row.row} {p.v} ({row.value(p.v)} ∷ []) {cell}')
-        c.become(5, 'obs', 'bor', f'l:{p.name}')
+                count = f'of-opd ! (load ! (from ! (fld ! refl (stop !))) (look-in ! {c.at(f"_{self.out.local_at}")} (sub ! 1 refl (whole !))))'
+                assign(c, count, '(stop !)', init(c, self.made[i], f'(tt, record {{ fits = {self.out.v}-room .0 }})'))
+        close_lent(c, self.lent, self.lent.v, f'{self.lent.v}-is')
 
     def call_look(self, c):
-        g, r, fact = self.look, self.seen, self.looked()
-        held = tuple_of([self.value(a) for a in self.args])
+        g, held = self.look, tuple_of([self.value(a) for a in self.args])
         c.note(f'the call of {g.f.name}')
         c.add('give', 'nothing !')
-        c.say(f'use1 W (raw ({g.contract()} 𝓤 H A at-mem run-of .pre to-{g.tag})) (goes-{g.tag} {self.lent.v}-is)')
-        c.become(1, 'pre')
-        ops = operands([c.at(f'_{self.made[i] if i in self.made else self.local[a.name]}') for i, a in enumerate(self.args)])
-        c.bind(f'calls-at ! fm ({g.contract()} 𝓤 H A at-mem run-of) known-{g.tag} to-{g.tag} {ops} (λ w-l.\n        use1 W (later (some (λ (l : {r.denotes}). (‵ ftrue ⊛ ‵ ({r.row} .own l (w-l ∷ []))) ⊛ raw (ensured 𝓤 H A g-{g.tag}.ended (g-{g.tag}.clauses 𝓤 H A at-mem run-of) tt {held} tt l)))) (id⊢ 𝓤 _)')
-        c.say('await ! tt')
-        c.bind('pick ! (λ l. split !')
-        c.become(1, 'X', 'ens')
-        c.front('ens')
-        c.say(f'use1 W (some (λ (zs : {product_of(["Unit {0}"] * len(self.args))}). ‵ (lasts g-{g.tag}.ended tt {held} zs) ⊛ raw (fact 𝓤 ({fact})))) (id⊢ 𝓤 _)')
-        c.bind('pick ! (λ zs-l. split !')
-        c.become(1, 'lasts', 'fact')
-        c.front('fact')
-        c.bind(f'heard ! ({fact}) (λ e-l.')
-        c.become(1)
-        c.front('lasts')
-        c.names[0] = 'rest'
-        for _ in self.args:
-            c.say('fsplit !', 'drop !')
-        c.rename('rest', 'true3')
-        c.front('X')
-        c.say('split !')
-        c.become(1, 'true4', 'ownl')
-        c.front('ownl')
-        c.bind(f'peeks ! {r.laws()} l (w-l ∷ []) (λ l-was.')
-        at = c.at(f'_{self.look_at}')
-        c.say(f'land ! (from ! (stop !)) (init ! {at} refl {r.typed("l", "l-was")})',
-              f'rewrite ! {at} (λ (u : Val). ‵ (fat fullShare {r.denotes}″.mir l-{self.look_at} 0 u)) (ap only ({r.tells} l (w-l ∷ []) l-was)) refl')
+        call = Call(g, self.seen, [self.made[i] if i in self.made else a.local_at for i, a in enumerate(self.args)], held, product_of(['Unit {0}'] * len(self.args)), self.looked(),
+                    of='look', ghost=f'to-{g.tag}', goes=f'(goes-{g.tag} {self.lent.v}-is)')
+        call.made(c)
+        call.back(c, [None] * len(self.args), [])
+        call.lands(c, self.look_at)
+        return call
 
     def ways_from(self, k, names):
         """The k-th test with its way, and what is left where it fails."""
@@ -279,81 +187,39 @@ class Fork(Frame):
             return self.way(k, names)
         t, c = self.look.f.result, Context(names)
         at = [n for n, _ in self.rows.fields(t)].index(way.field)
-        where, how = c.at(f'_{self.look_at}'), 'store' if k else 'init'
-        env = f'({" ".join(["En"] + [f"l-{i}" for i in range(self.count)])})'
-        c.say(f'assigns ! (of-opd ! (load ! (from ! (fld ! {{τ = tyBool}} refl (stop !))) (look-in ! {where} (sub ! {{τs = {self.rows.machines(t)}}} {at} refl (whole !))))) (from ! (stop !)) ({how} ! {c.at(f"_{self.test}")} refl (bool-lawful 𝓤 H A W .typed (l .{way.field}) _ (LL.owed {t}′.the-type {t}″.the-laws l _ l-was{nth(at)}) .0))',
-              'first !', f'branches ! (load ! (from ! (stop !)) (look ! {c.at(f"_{self.test}")} refl))\n        -- {way.callee.f.name}\n        (λ yes. {self.way(k, names)})\n        -- else\n        (λ no. skips ! $ exec ! C Λ {env} rest-{k + 1} (atRet {env} Post) $ {self.ways_from(k + 1, names)})')
+        field = f'of-opd ! (load ! (from ! (fld ! {{τ = tyBool}} refl (stop !))) (look-in ! {c.at(f"_{self.look_at}")} (sub ! {{τs = {self.rows.machines(t)}}} {at} refl (whole !))))'
+        known = f'(LL.owed {t}′.the-type {t}″.the-laws l _ l-was{nth(at)})'
+        test = c.at(f'_{self.test}')
+        assign(c, field, '(stop !)', f'{"store" if k else "init"} ! {test} refl {self.rows.of("bool").typed(f"(l .{way.field})", known)}')
+        c.say('first !', f'branches ! (load ! (from ! (stop !)) (look ! {test} refl))\n        -- {way.callee.f.name}\n        (λ yes. {self.way(k, names)})\n        -- else\n'
+              f'        (λ no. skips ! $ exec ! C Λ {self.env()} rest-{k + 1} (atRet {self.env()} Post) $ {self.ways_from(k + 1, names)})')
         return c.text()
 
     def way(self, k, names):
-        way, g, lent, out, r = self.ways[k], self.ways[k].callee, self.lent, self.out, self.result
-        c, looks = Context(names), 'look' in way.names()
-        self.lend(c, k)
+        way, lent, r = self.ways[k], self.lent, self.result
+        c = Context(names)
+        ref, to, both = self.lends(k)
+        assign(c, f'addr ! (from ! (hop ! (look ! {c.at(f"_{lent.local_at}")} refl) (stop !)))', '(stop !)', init(c, ref, '(tt, tt)'))
+        lend_slice(c, self.out, to, both)
         c.front('obs', 'bor')
         c.say(f'feqI ! (List Val) ({lent.value()} ∷ []) ({lent.value()} ∷ []) refl', 'fjoin3 !')
         c.become(2, f'p:{lent.name}')
         give_all(c, [f'l:{p.name}' for p in self.refs] + [f'p:{p.name}' for p in self.refs])
-        is_l = f'(subst (Is {self.seen.row} l) ({self.seen.tells} l (w-l ∷ []) l-was) l-was)'
-        to, goes = (f'(to-{g.tag} l)', f'(goes-{g.tag} l {is_l})') if looks else (f'to-{g.tag}', f'goes-{g.tag}')
-        c.say(f'use1 W (raw ({g.contract()} 𝓤 H A at-mem run-of .pre {to})) {goes}')
-        c.become(1, 'pre')
-        ops = operands([c.at(f'_{i}') for i in self.handed(k)])
-        ends = product_of([lent.row.denotes if n == lent.name else 'List Float' if n == out.name else 'Unit {0}' for n in way.names()])
-        z_lent, z_out = (f'(zs{nth(way.names().index(p.name))})' for p in (lent, out))
-        fact, held, lives = self.fact(k, z_lent, z_out), self.held(k), self.lives()
-        tokens = ' ⊛ '.join([self.token(p) for p in self.refs] + ['‵ ftrue'])
-        c.bind(f'calls-at ! fm ({g.contract()} 𝓤 H A at-mem run-of) known-{g.tag} {to} {ops} (λ w.\n        use1 W (later (some (λ (r : {r.denotes}). (({tokens}) ⊛ ‵ ({r.row} .own r (w ∷ []))) ⊛ raw (ensured 𝓤 H A g-{g.tag}.ended (g-{g.tag}.clauses 𝓤 H A at-mem run-of) {lives} {held} tt r)))) (id⊢ 𝓤 _)')
-        c.say('await ! tt')
-        c.bind('pick ! (λ r. split !')
-        c.become(1, 'X', 'ens')
-        c.front('ens')
-        c.say(f'use1 W (some (λ (zs : {ends}). ‵ (lasts g-{g.tag}.ended {lives} {held} zs) ⊛ raw (fact 𝓤 ({fact})))) (id⊢ 𝓤 _)')
-        c.bind('pick ! (λ zs. split !')
-        c.become(1, 'lasts', 'fact')
-        c.front('fact')
-        c.bind(f'heard ! ({fact}) (λ e.')
-        c.become(1)
-        self.take_back(c, way)
-        c.bind(f'peeks ! {r.laws()} r (w ∷ []) (λ is.')
-        c.say(f'land ! (from ! (stop !)) (init ! {c.at("_0")} refl {r.typed("r", "is")})',
-              f'rewrite ! {c.at("_0")} (λ (u : Val). ‵ (fat fullShare {r.denotes}″.mir l-0 0 u)) (ap only ({r.tells} r (w ∷ []) is)) refl',
-              f'returns-within ! Post refl (look ! {c.at("_0")} refl)' if way.field else f'returns ! (look ! {c.at("_0")} refl)')
+        z_lent, z_out = (f'(zs{nth(way.names().index(p.name))})' for p in (lent, self.out))
+        call = self.calling(k, self.fact(k, z_lent, z_out))
+        call.made(c)
+        call.back(c, [self.by_name.get(n) for n in way.names()], self.refs)
+        call.lands(c, 0)
+        c.say(f'returns-within ! Post refl (look ! {c.at("_0")} refl)' if way.field else f'returns ! (look ! {c.at("_0")} refl)')
         self.leave(c, self.count, set(range(self.test + 1)) | set(self.lends(k)))
-        c.say('keep ! ' + numbers([c.at(n) for n, _ in self.left()]), f'by ! (exits r {z_lent} {z_out} {self.same(way)} l-{out.v} (subst (Is {r.row} r) ({r.tells} r (w ∷ []) is) is))')
+        c.say('keep ! ' + numbers([c.at(n) for n, _ in self.left()]), f'by ! (exits r {z_lent} {z_out} {self.same(way)} l-{self.out.v} {call.is_known()})')
         return c.text()
 
-    def lend(self, c, k):
-        """The struct and the buffer are lent on."""
-        ref, to, both = (c.at(f'_{i}') for i in self.lends(k))
-        out = c.at(f'_{self.local[self.out.name]}')
-        c.say(f'assigns ! (addr ! (from ! (hop ! (look ! {c.at(f"_{self.local[self.lent.name]}")} refl) (stop !)))) (from ! (stop !)) (init ! {ref} refl (tt, tt))',
-              f'assigns ! (addr ! (from ! (fld ! refl (hop ! (look-in ! {out} (sub ! 0 refl (whole !))) (stop !))))) (from ! (stop !)) (init ! {to} refl (tt, tt))',
-              f'assigns ! (agg ! (and-then ! (load ! (from ! (stop !)) (look ! {to} refl)) (and-then ! (load ! (from ! (fld ! refl (stop !))) (look-in ! {out} (sub ! 1 refl (whole !)))) (no-more !)))) (from ! (stop !)) (init ! {both} refl {self.out.fits()})')
-
-    def take_back(self, c, way):
-        """What the callee leaves of the struct and the buffer, and the tokens."""
-        c.front('lasts')
-        c.names[0] = 'rest'
-        for n in way.names():
-            c.front('rest')
-            c.say('fsplit !')
-            if n == self.out.name:
-                c.say('fsplit !')
-                c.become(1, 'fin', 'feq', 'rest')
-                c.front('feq')
-                c.bind(f'feqL ! (λ l-{self.out.v}.')
-                c.become(1)
-            elif n == self.lent.name:
-                c.become(1, 'res', 'rest')
-            else:
-                c.say('drop !')
-        c.rename('rest', 'true5')
-        c.front('X')
-        c.say('split !')
-        c.become(1, 'gtok', 'ownr')
-        c.front('gtok')
-        c.split_off([f'l:{p.name}' for p in self.refs], 'split', last='true6')
-        c.front('ownr')
+    def calling(self, k, fact):
+        way, tag = self.ways[k], self.ways[k].callee.tag
+        ends = product_of([self.lent.row.denotes if n == self.lent.name else 'List Float' if n == self.out.name else 'Unit {0}' for n in way.names()])
+        ghost, goes = (f'(to-{tag} l)', f'(goes-{tag} l {self.seeing.is_known()})') if 'look' in way.names() else (f'to-{tag}', f'goes-{tag}')
+        return Call(way.callee, self.result, self.handed(k), self.held(k), ends, fact, self.lives(), ' ⊛ '.join([self.token(p) for p in self.refs] + ['‵ ftrue']), ghost=ghost, goes=goes)
 
     def same(self, way):
         """Why what this way gives is what the contract says: a lemma, but on the last way."""
@@ -361,7 +227,3 @@ class Fork(Frame):
             return 'e'
         lemma = f'{self.described["same"][way.field]} {" ".join(p.v for p in self.params)} l e-l (holds _ yes)'
         return '(' + ', '.join(f'e .{i} ∙ {lemma} .{i}' for i in range(3)) + ')'
-
-
-def seqs(steps, last):
-    return '\n      '.join(f'(seq {s}' for s in steps) + f'\n      {last}' + ')' * len(steps)

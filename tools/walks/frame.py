@@ -1,105 +1,11 @@
 """What every walk has in common: its head with the types as their rows have them, its parameters, and its end with the theorem."""
 import re
 from imports import IMPORTS
+from params import Param, home
 from rows import Rows, nth, product_of, tuple_of
-from sources import Refused
 
 RANGE = '{M : Type 1} (𝓤 : URA M) (H : Heap 𝓤) (A : Atoms 𝓤)'
 IN = '(mem : Memory → SProp 𝓤) (run-of : Routine → Fun 𝓤)'
-FLOATS = '(tyFloat binary64)'
-
-
-class Param:
-    """A parameter: plain, `lent` (&mut S), `shared` (&S) or a slice (&mut [f64])."""
-
-    def __init__(self, name, t, rows):
-        self.name, self.v = name, f'v-{name}'
-        self.kind = 'slice' if t.startswith('&mut [') else 'lent' if t.startswith('&mut ') else 'shared' if t.startswith('&') else 'plain'
-        self.type = t.replace('&mut ', '').replace('&', '')
-        if self.kind == 'slice' and self.type != '[f64]':
-            raise Refused(f'the slice {t} is not covered: only &mut [f64] is.')
-        self.row = rows.of('f64' if self.kind == 'slice' else self.type)
-        self.life = None
-
-    def denotes(self):
-        return {'plain': self.row.denotes, 'slice': 'RefT (List Float)'}.get(self.kind, f'RefT {self.row.denotes}')
-
-    def holds(self):
-        """What the parameter is in the contract's terms."""
-        return self.v if self.kind == 'plain' else f'x-{self.v}'
-
-    def value(self):
-        at = f'(b-{self.v}, o-{self.v})'
-        return {'plain': self.row.value(self.v), 'slice': f'(sliceVal {at} (length {self.v}))'}.get(self.kind, f'(vptr b-{self.v} o-{self.v})')
-
-    def owns(self):
-        how = {'plain': self.row.row, 'slice': f'MutSlice (named {self.life}) κ-{self.v} f64', 'shared': f'ShrRef (named {self.life}) κ-{self.v} {self.row.row}'}
-        return how.get(self.kind, f'MutRef (named {self.life}) κ-{self.v} {self.row.row}')
-
-    def local(self):
-        return {'plain': self.row.machine, 'slice': f'(τ-slice (named {self.life}) {FLOATS})',
-                'shared': f'(tyRef (named {self.life}) imm (tyNamed ({self.type}′.struct .name, [])))'}.get(
-                    self.kind, f'(tyRef (named {self.life}) mut (tyNamed ({self.type}′.struct .name, [])))')
-
-    def binds(self):
-        if self.kind == 'plain':
-            return f'({self.v} : {self.row.denotes})'
-        inside = 'List Float' if self.kind == 'slice' else self.row.denotes
-        return f'(b-{self.v} o-{self.v} : ℕ) (γ-{self.v} : GName) ({self.v} : {inside})'
-
-    def known(self):
-        return {'plain': f'({self.v}-is : {self.row.is_of(self.v)})', 'slice': f'({self.v}-room : Room f64 (length {self.v}))'}.get(self.kind, '')
-
-    def fits(self):
-        """Why its value may stand in its local."""
-        return {'plain': self.row.typed(self.v, f'{self.v}-is'), 'slice': f'(tt, (tt, (record {{ fits = {self.v}-room .0 }}, tt)))'}.get(self.kind, '(tt, tt)')
-
-    def stays(self, is_given):
-        row = f'(plain (λ _. {"f64" if self.kind == "slice" else self.row.row}))'
-        return {'plain': f'stay-none (λ _. {self.row.row}) yes', 'slice': f'gave-slice ({self.life} ∷ []) tt {row}', 'shared': f'stay-none-ref ({self.life} ∷ []) tt {row} yes'}.get(
-            self.kind, f'{"gave-ref" if is_given else "stay-ref"} ({self.life} ∷ []) tt {row}')
-
-    def goes(self, is_given, count):
-        row, to = f'(plain (λ _. {"f64" if self.kind == "slice" else self.row.row}))', f'𝓤 H A W {count}'
-        return {'plain': f'goes-none {to} (λ _. {self.row.row}) yes (λ κs x f. refl)', 'slice': f'goes-gave-slice {to} {self.life} tt {row}',
-                'shared': f'goes-none-ref {to} ({self.life} ∷ []) tt {row} yes'}.get(self.kind, f'{"goes-gave-ref" if is_given else "goes-ref"} {to} {self.life} tt {row}')
-
-    def tells(self):
-        at = f'(named {self.life}) (κs{nth(self.life)})' if self.life is not None else ''
-        return {'plain': self.row.tells, 'slice': f'mut-slice-tells {at} f64', 'shared': f'shr-tells {at} {self.row.row}'}.get(self.kind, f'mut-tells {at} {self.row.row}')
-
-    def vals(self):
-        return {'plain': self.row.vals, 'slice': 'slice-vals'}.get(self.kind, 'ptr-vals')
-
-
-class Callee:
-    """A function that the walk calls, by its tag; `args` are the arguments' texts."""
-
-    def __init__(self, function, walker, args):
-        self.f, self.tag, self.args = function, function.name.replace('_', '-'), args
-        self.key = '#' + function.path().replace('::', '·').replace('_', '-')
-        self.home = home(function.crate, walker) + '.'.join(function.module + [function.name])
-        if len(function.ensures) != 1:
-            raise Refused(f'{function.path()} has {len(function.ensures)} ensures clauses: a walk cites exactly one.')
-
-    def contract(self):
-        return f'Callee-{self.tag}'
-
-    def uses(self):
-        g = f'g-{self.tag}'
-        return [f'use {self.home} as {g}', f'use {self.home}.Symbol as {g}-def', f'use {self.home}.Symbol.{{name as {self.key}}}', f'use {self.home}.Met as {g}-met']
-
-    def fact(self, values, result, exits):
-        """What it ensures: its parameters as `values` has them, its result, and what stands behind each reference at exit."""
-        variable, text = self.f.ensures[0]
-        text = re.sub(r'\s+', ' ', text)
-        text = re.sub(r'now \((\w+) \.(entry|exit)\)', lambda m: values[m.group(1)] if m.group(2) == 'entry' else exits[m.group(1)], text)
-        names = {variable: result, **values}
-        return re.sub(r'(?<![\w.·′«-])(' + '|'.join(names) + r')(?![\w·′»-])', lambda m: names[m.group(1)], text)
-
-
-def home(crate, walker, part='proofs'):
-    return f'Rattle.{crate}.{part}.' if crate == walker else f'Rattle.{crate}.{part}.'
 
 
 class Frame:
@@ -115,6 +21,8 @@ class Frame:
         self.refs = [p for p in self.params if p.kind != 'plain']
         for i, p in enumerate(self.refs):
             p.life = i
+        for i, p in enumerate(self.params):
+            p.local_at = i + 1
         self.result = self.rows.of(function.result)
         self.tag = function.name.replace('_', '-')
         self.key = '#' + function.path().replace('::', '·').replace('_', '-')
@@ -207,7 +115,7 @@ class Frame:
                 '  abbrev Post : Val → SProp 𝓤', f'  Post = walkOf 𝓤 H A f.ended stayed (f.clauses 𝓤 H A at-mem run-of) .post {self.bound()}', '']
         return out
 
-    def entry(self, context, count):
+    def entry(self, context):
         """The walk's first steps: locals, parameters, and what these own."""
         for i, p in enumerate(self.params):
             context.say(f'pass1 ! (init ! {context.at(f"_{i + 1}")} refl {p.fits()})')
@@ -239,8 +147,30 @@ class Frame:
                 f'        qed W (({tokens}) ∷ ‵ (owns ({rows}) x at) ∷ []) ∵ enter ! C Λ walked-fn ({flat}) _ $',
                 '        ' + ''.join(f'alloc1 ! (λ l-{i}. ' for i in range(count)) + 'alloc0 ! $ params1 ! $', '        ' + context.text() + ')' * count, '']
 
-    def exits(self, returned, names, facts, steps, items):
-        return ['  ' + f'exits : {facts}', f'  exits {names} =', f'      qed W ({items}) ∵', '      ' + steps, '']
+    def leaves(self, c, told, ends, says, put_lent):
+        """The steps at the exit: all that is left is what the contract says, of the result `told` and of what the references hold then."""
+        last = tuple_of([ends(p) if p in self.refs and p.kind != 'shared' else 'tt' for p in self.params])
+        same = tuple_of([f'l-{p.v}' if p.kind == 'slice' else 'tt' for p in self.params])
+        c.say(f'suffices ! _ (ends-at 𝓤 H A f.ended stayed (f.clauses 𝓤 H A at-mem run-of) W {self.bound()} {self.result.value(told)} {told} {last} {same})', f'says ! {says}')
+        c.add('tok', 'nothing !')
+        for p in reversed(self.refs):
+            c.join_on(f'l:{p.name}')
+        c.say('frame !')
+        c.become(1)
+        c.add('acc', 'nothing !')
+        for p in reversed(self.params):
+            if p.kind == 'plain':
+                c.add('this', p.row.owned(p.v, f'{p.v}-is'))
+            elif p.kind == 'slice':
+                c.front(f'fin:{p.name}', 'acc')
+            else:
+                put_lent(c, p)
+            c.say('fjoin !')
+            c.become(2, 'acc')
+        c.say(self.result.owned(told, 'is'), 'move ! (1 ∷ 0 ∷ [])', 'done !')
+
+    def exits(self, statement, names, items, c):
+        return [f'  exits : {statement}', f'  exits {names} =', f'      qed W ({items}) ∵', '      ' + c.text(), '']
 
     def ending(self):
         ps, count = self.params, len(self.refs)

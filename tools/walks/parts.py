@@ -8,6 +8,8 @@ class Part:
 
     def __init__(self, owner, fields, rows):
         self.owner, self.fields, self.steps, t = owner, fields, [], owner.type
+        if len(fields) > 2:
+            raise Refused(f'{owner.name}.{".".join(fields)} is not covered: a part lies at most two fields deep.')
         for field in fields:
             names = [n for n, _ in rows.fields(t)]
             if field not in names:

@@ -7,18 +7,21 @@
 An argument is a parameter, `*run` for all of the struct, or `run.p.q` for a part of it."""
 import re
 from context import Context
-from frame import FLOATS, Callee, Frame
-from nine import nine_facts, nine_law
-from parts import Part, give_all, inner_facts, operands
+from frame import Frame
+from known import Known
+from nine import nine_law
+from params import FLOATS, Callee
+from parts import Part, give_all
 from rows import NINE, nth, numbers, product_of, tuple_of
 from sources import Refused
+from steps import Call, assign, close_lent, hand_over, init, lend_slice, look_into, open_lent, read_part, shut
 
 CALL = re.compile(r'(?:let done = )?([\w:]+)\((.*?)\)(?:;|$)', re.S)
 STORE = re.compile(r'^    (\*?)(\w+)((?:\.\w+)*) = done\.(\w+);$', re.M)
 RESULT = re.compile(r'^    done\.(\w+)$', re.M)
 
 
-class Thin(Frame):
+class Thin(Known, Frame):
     def __init__(self, sources, function, description):
         super().__init__(sources, function, description)
         called = CALL.search(function.body.strip())
@@ -60,10 +63,9 @@ class Thin(Frame):
                 self.made[i] = (at, at + 1)
             at += len(self.made.get(i, ()))
         self.count, self.done_at = at, len(self.params) + 1 if self.stores else 0
-        self.local = {p.name: i + 1 for i, p in enumerate(self.params)}
 
     def handed(self, i):
-        return self.made[i][-1] if i in self.made else self.local[self.args[i].name]
+        return self.made[i][-1] if i in self.made else self.args[i].local_at
 
     def story(self):
         if not self.stores:
@@ -78,17 +80,17 @@ class Thin(Frame):
         for i, a in enumerate(self.args):
             if isinstance(a, Part):
                 types.append(a.row.machine)
-                body.append(f'(assign (place {self.made[i][0]} []) (rvOpd (copy (place {self.local[self.lent.name]} {lent}{a.place()}[])))))')
+                body.append(f'(assign (place {self.made[i][0]} []) (rvOpd (copy (place {self.lent.local_at} {lent}{a.place()}[])))))')
             elif a.kind == 'slice':
                 types += [f'(tyRef erased mut {FLOATS})', f'(τ-slice erased {FLOATS})']
-                to, both, at = *self.made[i], self.local[a.name]
+                to, both, at = *self.made[i], a.local_at
                 body += [f'(assign (place {to} []) (addrOf (place {at} (field 0 ∷ deref {FLOATS} ∷ []))))',
                          f'(assign (place {both} []) (aggregate (copy (place {to} []) ∷ copy (place {at} (field 1 ∷ [])) ∷ [])))']
         given = ''.join(f'copy (place {self.handed(i)} []) ∷ ' for i in range(len(self.args)))
         body.append(f'(call {self.callee.key} ({given}[]) (place {self.done_at} []))')
         fields = [n for n, _ in self.rows.fields(self.done_type)] if self.stores else []
         for part, field in self.stored():
-            body.append(f'(assign (place {self.local[self.lent.name]} {lent}{part.place()}[])) (rvOpd (copy (place {self.done_at} (field {fields.index(field)} ∷ [])))))')
+            body.append(f'(assign (place {self.lent.local_at} {lent}{part.place()}[])) (rvOpd (copy (place {self.done_at} (field {fields.index(field)} ∷ [])))))')
         if self.told_field:
             body.append(f'(assign (place 0 []) (rvOpd (copy (place {self.done_at} (field {fields.index(self.told_field)} ∷ [])))))')
         return self.walked(types, '\n      '.join(f'(seq {b}' for b in body) + '\n      return' + ')' * len(body))
@@ -96,40 +98,7 @@ class Thin(Frame):
     def stored(self):
         return [(Part(self.by_name[name], [f for f in fields.split('.') if f], self.rows), field) for _, name, fields, field in self.stores]
 
-    # ---- what is known of the parts
-    def about(self):
-        out = nine_facts() if self.has_nine() else []
-        if self.stores:
-            out += ['-- what whoever holds what the callee returned knows of its fields']
-            for i, (field, t) in enumerate(self.rows.fields(self.done_type)):
-                row = self.rows.of(t)
-                inside = f'Is (nine-field .row) (tuples (r .{field})) (nine-val (r .{field}) ∷ [])' if t == NINE else row.is_of(f'(r .{field})')
-                out += [f'{field}-is : (r : {self.done.denotes}) (vs : List Val) → Is {self.done.row} r vs → {inside}',
-                        f'{field}-is r vs is = LL.owed {self.done_type}′.the-type {self.done_type}″.the-laws r vs is{nth(i)}', '']
-        if self.stores and not self.whole:
-            out += self.new_run()
-        return out
-
-    def has_nine(self):
-        return any(isinstance(a, Part) and a.type == NINE for a in self.args) or (self.stores and NINE in [t for _, t in self.rows.fields(self.done_type)])
-
-    def new_run(self):
-        """The struct at exit is one: what is stored in its place, the rest as it was."""
-        top, new = self.lent.type, self.described['new']
-        stored = {tuple(p.fields): field for p, field in self.stored()}
-        inner = {f[0] for f in stored if len(f) == 2} | {a.fields[0] for a in self.args if isinstance(a, Part) and len(a.fields) == 2}
-        parts = []
-        for i, (field, t) in enumerate(self.rows.fields(top)):
-            if field in inner:
-                was = f'LL.owed {t}′.the-type {t}″.the-laws (x .{field}) _ ({field}-of x _ was)'
-                fields = [f'{stored[field, n]}-is r _ is' if (field, n) in stored else was + nth(j) for j, (n, _) in enumerate(self.rows.fields(t))]
-                parts.append(f'LL.owes {t}′.the-type {t}″.the-laws ({new} x r .{field}) {tuple_of(fields)}')
-            else:
-                parts.append(f'{stored[field,]}-is r _ is' if (field,) in stored else f'LL.owed {top}′.the-type {top}″.the-laws x _ was{nth(i)}')
-        return ['-- and of the struct that is lent'] + inner_facts(self.lent, self.rows, inner) + [
-            f'new-is : (x : {top}) (vs : List Val) → Is {top}′.the-row x vs → (r : {self.done.denotes}) (ws : List Val) → Is {self.done.row} r ws → {self.lent.row.is_of(f"({new} x r)")}',
-            f'new-is x vs was r ws is = LL.owes {top}′.the-type {top}″.the-laws ({new} x r) {tuple_of(parts)}', '']
-
+    # ---- the struct at exit
     def new(self, r='r'):
         if self.whole:
             return f'({r} .{self.stores[0][3]})'
@@ -162,29 +131,19 @@ class Thin(Frame):
                f'  to-callee = (({self.lives(self.slices)}, {self.shares(self.slices)}, tt, {self.held()}, {values}), tt)', '']
         links = [self.token(p) for p in self.slices] + [f'‵ (MutSlice (named {i}) κ-{p.v} f64 .own x-{p.v} ({p.value()} ∷ []))' for i, p in enumerate(self.slices)]
         one = ' ⊛ '.join(links) if links else '‵ ftrue'
-        c = Context(['one'])
+        c = Context(['one'] if links else ['acc'])
         if links:
             c.say('split !')
             c.become(1, f'l:{self.slices[0].name}', f's:{self.slices[0].name}')
-            c.add('acc', 'nothing !')
-        else:
-            c.names = ['acc']
-        for a in reversed(self.args):
-            if not isinstance(a, Part) and a.kind == 'slice':
-                c.front(f's:{a.name}', 'acc')
-            else:
-                value, why = (a.value(), a.known()) if isinstance(a, Part) else (a.v, f'{a.v}-is')
-                c.add('this', a.row.owned(value, why))
-            c.say('fjoin !')
-            c.become(2, 'acc')
-        c.add('tok', 'nothing !')
-        for p in reversed(self.slices):
-            c.join_on(f'l:{p.name}')
-        c.front('tok', 'acc')
-        c.say('join !', 'frame !', 'done !')
+        hand_over(c, [self.handing(a) for a in self.args], self.slices)
         needs = f'({lent.v}-is : {lent.row.is_of(lent.v)}) → ' if self.reads() else ''
         name = f' {lent.v}-is' if self.reads() else ''
         return out + [f'  goes : {needs}ent 𝓤 (⋆ 𝓤 H A (({one}) ∷ [])) ({g.contract()} 𝓤 H A at-mem run-of .pre to-callee)', f'  goes{name} =', f'      qed W (({one}) ∷ []) ∵ {c.text()}', '']
+
+    def handing(self, a):
+        if isinstance(a, Part):
+            return None, a.row.owned(a.value(), a.known())
+        return (f's:{a.name}', None) if a.kind == 'slice' else (None, a.row.owned(a.v, f'{a.v}-is'))
 
     # ---- the exit
     def left(self):
@@ -205,179 +164,76 @@ class Thin(Frame):
 
     def exit(self):
         items = ' ∷ '.join(t for _, t in self.left()) + ' ∷ []'
-        c, value = Context([n for n, _ in self.left()]), self.result.value(self.told)
-        ends = {'lent': lambda p: self.new(), 'slice': lambda p: f'z-{p.v}'}
-        last = tuple_of([ends[p.kind](p) if p.kind in ends else 'tt' for p in self.params])
-        same = tuple_of([f'l-{p.v}' if p.kind == 'slice' else 'tt' for p in self.params])
-        c.say(f'suffices ! _ (ends-at 𝓤 H A f.ended stayed (f.clauses 𝓤 H A at-mem run-of) W {self.bound()} {value} {self.told} {last} {same})', f'says ! {self.says()}')
-        c.add('tok', 'nothing !')
-        for p in reversed(self.refs):
-            c.join_on(f'l:{p.name}')
-        c.say('frame !')
-        c.become(1)
-        c.add('acc', 'nothing !')
-        for p in reversed(self.params):
-            if p.kind == 'plain':
-                c.add('this', p.row.owned(p.v, f'{p.v}-is'))
-            elif p.kind == 'slice':
-                c.front(f'fin:{p.name}', 'acc')
-            else:
-                c.front(*(('obs', 'bor') if self.stores else ('res', 'shr')), 'acc')
-                c.say(f'feqI ! (List Val) ({p.value()} ∷ []) ({p.value()} ∷ []) refl', 'fjoin3 !')
-                c.become(2, 'this')
-            c.say('fjoin !')
-            c.become(2, 'acc')
-        c.say(self.result.owned(self.told, 'is'), 'move ! (1 ∷ 0 ∷ [])', 'done !')
+        c = Context([n for n, _ in self.left()])
+
+        def put_lent(c, p):
+            c.front(*(('obs', 'bor') if self.stores else ('res', 'shr')), 'acc')
+            c.say(f'feqI ! (List Val) ({p.value()} ∷ []) ({p.value()} ∷ []) refl', 'fjoin3 !')
+            c.become(2, 'this')
+        self.leaves(c, self.told, lambda p: self.new() if p.kind == 'lent' else f'z-{p.v}', self.says(), put_lent)
         ends = ''.join(f' (z-{p.v} : List Float)' for p in self.slices)
         same = ''.join(f' → length z-{p.v} ≡ length {p.v}' for p in self.slices)
         fact = self.fact({p.name: f'z-{p.v}' for p in self.slices})
-        statement = f'(r : {self.done.denotes}){ends} → {fact}{same} → {self.result.is_of(self.told)} → ent 𝓤 (⋆ 𝓤 H A ({items})) (Post {value})'
+        value = self.result.value(self.told)
         names = ' '.join(['r'] + [f'z-{p.v}' for p in self.slices] + ['e'] + [f'l-{p.v}' for p in self.slices] + ['is'])
-        return [f'  exits : {statement}', f'  exits {names} =', f'      qed W ({items}) ∵', '      ' + c.text(), '']
+        return self.exits(f'(r : {self.done.denotes}){ends} → {fact}{same} → {self.result.is_of(self.told)} → ent 𝓤 (⋆ 𝓤 H A ({items})) (Post {value})', names, items, c)
 
     # ---- the walk
     def walking(self):
-        c = Context([n for i in reversed(range(self.count)) for n in (f'_{i}', f'd{i}')] + ['tok', 'owns'])
-        self.entry(c, self.count)
-        self.open_lent(c)
-        for i, a in enumerate(self.args):
-            if isinstance(a, Part):
-                self.read_part(c, i, a)
-            elif a.kind == 'slice':
-                self.lend_slice(c, i, a)
-        if not self.stores:
-            self.shut_lent(c)
-        self.call(c)
+        c, slices = Context([n for i in reversed(range(self.count)) for n in (f'_{i}', f'd{i}')] + ['tok', 'owns']), self.slices
+        self.entry(c)
+        self.prepare(c)
+        call = self.calling()
+        c.note('the call')
+        if slices:
+            give_all(c, [f'l:{p.name}' for p in slices] + [f'p:{p.name}' for p in slices])
+        else:
+            c.add('give', 'nothing !')
+        call.made(c)
+        call.back(c, [None if isinstance(a, Part) else a for a in self.args], slices)
+        c.note('the result lands in its local, with its machine value written out')
+        call.lands(c, self.done_at)
         if self.stores:
             self.store(c)
         c.note('the locals are freed')
         c.say(f'returns ! (look ! {c.at("_0")} refl)')
         self.leave(c, self.count, range(self.count))
         c.say('keep ! ' + numbers([c.at(n) for n, _ in self.left()]))
-        zs = ''.join(f' {self.exit_of(p)}' for p in self.slices)
-        lengths = ''.join(f' l-{p.v}' for p in self.slices)
-        why = f'({self.told_field}-is r _ is)' if self.told_field else f'(subst (Is {self.result.row} r) ({self.result.tells} r (w ∷ []) is) is)'
-        c.say(f'by ! (exits r{zs} e{lengths} {why})')
+        ends, lengths = ''.join(f' {self.exit_of(p)}' for p in slices), ''.join(f' l-{p.v}' for p in slices)
+        c.say(f'by ! (exits r{ends} e{lengths} {f"({self.told_field}-is r _ is)" if self.told_field else call.is_known()})')
         return self.walk(c, self.count)
 
-    def cell(self):
-        return f'b-{self.lent.v} o-{self.lent.v}'
-
-    def open_lent(self, c):
-        p, row, cell = self.lent, self.lent.row, self.cell()
+    def prepare(self, c):
+        """The lent struct is opened, and what the callee takes stands in locals."""
         c.note('the borrow of the struct is opened, and its cell has the struct\'s own type' if self.stores else 'the borrow of the struct is looked into')
-        c.front(f'p:{p.name}')
-        c.say('fsplit3 !', 'drop !')
-        spelt_out = f'spelt ! {row.laws()} ({row.vals}) ({row.tells})'
-        if self.stores:
-            c.become(1, 'obs', 'bor')
-            c.front('obs', 'bor', f'l:{p.name}')
-            c.bind(f'opens ! tt {row.row} {{h = {p.v}}} {cell} (λ vs. {spelt_out} fullShare {p.v} vs {cell}')
-            c.become(3, 'cell', 'own', 'obor', 'obs', 'auth')
-            c.front('own')
-            c.bind(f'peeks ! {row.laws()} {p.v} ({row.value(p.v)} ∷ []) (λ {p.v}-is. drop !')
-            c.become(2, 'cell')
-            c.say(f'use1 W (‵ (fat fullShare {row.machine} {cell} {row.value(p.v)})) (W .laws .raw-at fullShare {row.machine} {cell} {row.value(p.v)})')
-        else:
-            c.become(1, 'res', 'shr')
-            c.front('shr', f'l:{p.name}')
-            c.bind(f'looks ! tt {row.laws()} ({row.vals}) ({row.tells}) ({row.copy}) {p.v} {cell} (λ p us. {spelt_out} p {p.v} us {cell}')
-            c.become(2, 'cell', 'own', 'sb', 'shr')
-            c.front('own')
-            c.bind(f'peeks ! {row.laws()} {p.v} ({row.value(p.v)} ∷ []) (λ {p.v}-is. move ! (1 ∷ 0 ∷ [])')
-            c.become(2, 'cell', 'own')
+        (open_lent if self.stores else look_into)(c, self.lent)
+        for i, a in enumerate(self.args):
+            if isinstance(a, Part):
+                read_part(c, a, self.made[i][0], is_shared=not self.stores)
+            elif a.kind == 'slice':
+                lend_slice(c, a, *self.made[i])
+        if not self.stores:
+            shut(c, self.lent)
 
-    def shut_lent(self, c):
-        p = self.lent
-        c.front('cell', 'own', 'sb', 'shr')
-        c.say(f'shuts ! tt {p.row.row} p {p.v} ({p.row.value(p.v)} ∷ []) {self.cell()}')
-        c.become(4, f'l:{p.name}', 'shr')
-
-    def read_part(self, c, i, part):
-        at = c.at(f'_{self.local[self.lent.name]}')
-        inside = f'look-in ! {c.at("cell")} {part.within()}' if self.stores else f'look-raw ! {c.at("cell")} refl'
-        c.say(f'assigns ! (of-opd ! (load ! (from ! (hop ! (look ! {at} refl) {part.way()})) ({inside}))) (from ! (stop !)) (init ! {c.at(f"_{self.made[i][0]}")} refl {part.row.typed(part.value(), part.known())})')
-
-    def lend_slice(self, c, i, p):
-        to, both, at = *(c.at(f'_{k}') for k in self.made[i]), c.at(f'_{self.local[p.name]}')
-        c.say(f'assigns ! (addr ! (from ! (fld ! refl (hop ! (look-in ! {at} (sub ! 0 refl (whole !))) (stop !))))) (from ! (stop !)) (init ! {to} refl (tt, tt))',
-              f'assigns ! (agg ! (and-then ! (load ! (from ! (stop !)) (look ! {to} refl)) (and-then ! (load ! (from ! (fld ! refl (stop !))) (look-in ! {at} (sub ! 1 refl (whole !)))) (no-more !)))) (from ! (stop !)) (init ! {both} refl {p.fits()})')
+    def calling(self):
+        ends = product_of(['List Float' if not isinstance(a, Part) and a.kind == 'slice' else 'Unit {0}' for a in self.args])
+        return Call(self.callee, self.done, [self.handed(i) for i in range(len(self.args))], self.held(), ends, self.fact({p.name: self.exit_of(p) for p in self.slices}),
+                    self.lives(self.slices), ' ⊛ '.join([self.token(p) for p in self.slices] + ['‵ ftrue']), goes=f'(goes {self.lent.v}-is)' if self.reads() else 'goes')
 
     def exit_of(self, p):
         return f'(zs{nth(self.args.index(p))})'
 
-    def call(self, c):
-        g, r = self.callee, self.done
-        c.note('the call')
-        if self.slices:
-            give_all(c, [f'l:{p.name}' for p in self.slices] + [f'p:{p.name}' for p in self.slices])
-        else:
-            c.add('give', 'nothing !')
-        c.say(f'use1 W (raw ({g.contract()} 𝓤 H A at-mem run-of .pre to-callee)) ' + (f'(goes {self.lent.v}-is)' if self.reads() else 'goes'))
-        c.become(1, 'pre')
-        ops = operands([c.at(f'_{self.handed(i)}') for i in range(len(self.args))])
-        tokens = ' ⊛ '.join([self.token(p) for p in self.slices] + ['‵ ftrue'])
-        lives, held = self.lives(self.slices), self.held()
-        fact = self.fact({p.name: self.exit_of(p) for p in self.slices})
-        ends = product_of(['List Float' if not isinstance(a, Part) and a.kind == 'slice' else 'Unit {0}' for a in self.args])
-        c.bind(f'calls-at ! fm ({g.contract()} 𝓤 H A at-mem run-of) known-{g.tag} to-callee {ops} (λ w.\n        use1 W (later (some (λ (r : {r.denotes}). (({tokens}) ⊛ ‵ ({r.row} .own r (w ∷ []))) ⊛ raw (ensured 𝓤 H A g-{g.tag}.ended (g-{g.tag}.clauses 𝓤 H A at-mem run-of) {lives} {held} tt r)))) (id⊢ 𝓤 _)')
-        c.say('await ! tt')
-        c.bind('pick ! (λ r. split !')
-        c.become(1, 'X', 'ens')
-        c.front('ens')
-        c.say(f'use1 W (some (λ (zs : {ends}). ‵ (lasts g-{g.tag}.ended {lives} {held} zs) ⊛ raw (fact 𝓤 ({fact})))) (id⊢ 𝓤 _)')
-        c.bind('pick ! (λ zs. split !')
-        c.become(1, 'lasts', 'fact')
-        c.front('fact')
-        c.bind(f'heard ! ({fact}) (λ e.')
-        c.become(1)
-        c.front('lasts')
-        c.names[0] = 'rest'
-        for a in self.args:
-            c.front('rest')
-            c.say('fsplit !')
-            if not isinstance(a, Part) and a.kind == 'slice':
-                c.say('fsplit !')
-                c.become(1, f'fin:{a.name}', 'feq', 'rest')
-                c.front('feq')
-                c.bind(f'feqL ! (λ l-{a.v}.')
-                c.become(1)
-            else:
-                c.say('drop !')
-        c.rename('rest', 'true3')
-        self.land(c)
-
-    def land(self, c):
-        r = self.done
-        c.note('the result lands in its local, with its machine value written out')
-        c.front('X')
-        c.say('split !')
-        c.become(1, 'gtok', 'ownr')
-        c.front('gtok')
-        c.split_off([f'l:{p.name}' for p in self.slices], 'split', last='true4')
-        c.front('ownr')
-        c.bind(f'peeks ! {r.laws()} r (w ∷ []) (λ is.')
-        at = c.at(f'_{self.done_at}')
-        c.say(f'land ! (from ! (stop !)) (init ! {at} refl {r.typed("r", "is")})',
-              f'rewrite ! {at} (λ (u : Val). ‵ (fat fullShare {self.done_type}″.mir l-{self.done_at} 0 u)) (ap only ({r.tells} r (w ∷ []) is)) refl')
-
     def store(self, c):
-        lent, row, cell = self.lent, self.lent.row, self.cell()
         c.note('what changes is stored in its place, and the last field is the result')
         at, fields = c.at(f'_{self.done_at}'), [n for n, _ in self.rows.fields(self.done_type)]
         ty = dict(self.rows.fields(self.done_type))
 
         def taken(field):
-            return f'of-opd ! (load ! (from ! (fld ! {{τ = {self.rows.of(ty[field]).machine}}} refl (stop !))) (look-in ! {at} (sub ! {{τs = {self.rows.machines(self.done_type)}}} {fields.index(field)} refl (whole !))))'
+            inside = f'(sub ! {{τs = {self.rows.machines(self.done_type)}}} {fields.index(field)} refl (whole !))'
+            return f'of-opd ! (load ! (from ! (fld ! {{τ = {self.rows.of(ty[field]).machine}}} refl (stop !))) (look-in ! {at} {inside}))'
         for part, field in self.stored():
             why = f'({field}-is r _ is)'
             typed = f'({nine_law(self.rows)} .typed (tuples (r .{field})) _ {why} .0)' if ty[field] == NINE else self.rows.of(ty[field]).typed(f'(r .{field})', why)
-            c.say(f'assigns ! ({taken(field)}) (from ! (hop ! (look ! {c.at(f"_{self.local[lent.name]}")} refl) {part.way()})) (store-in ! {c.at("cell")} {part.within()} {typed})')
-        told = self.told_field
-        c.say(f'assigns ! ({taken(told)}) (from ! (stop !)) (init ! {c.at("_0")} refl {self.result.typed(self.told, f"({told}-is r _ is)")})')
-        c.front('cell')
-        c.say(f'use1 W (‵ (fat fullShare (rawTy {row.machine}) {cell} {row.value(self.new())})) (W .laws .at-raw fullShare {row.machine} {cell} {row.value(self.new())})')
-        c.add('new', row.owned(self.new(), self.new_is()))
-        c.front('cell', 'new', 'obor', 'obs', 'auth')
-        c.say(f'closes ! tt {row.row} {self.new()} ({row.value(self.new())} ∷ []) {cell}')
-        c.become(5, 'obs', 'bor', f'l:{lent.name}')
+            assign(c, taken(field), f'(hop ! (look ! {c.at(f"_{self.lent.local_at}")} refl) {part.way()})', f'store-in ! {c.at("cell")} {part.within()} {typed}')
+        assign(c, taken(self.told_field), '(stop !)', init(c, 0, self.result.typed(self.told, f'({self.told_field}-is r _ is)')))
+        close_lent(c, self.lent, self.new(), self.new_is())

@@ -286,7 +286,7 @@ module _ {M : Type 1} (𝓤 : URA M) (H : Heap 𝓤) (A : Atoms 𝓤) (W : Given
         move ! (7 ∷ []) $ fsplit3 ! $ drop ! $ move ! (0 ∷ 1 ∷ 4 ∷ []) $ opens ! tt Run′.the-row {h = v-run} b-v-run o-v-run (λ vs. spelt ! Run′.the-row (Is Run′.the-row) (shows 𝓤 H A Run′.the-row) (LL.vals Run′.the-type Run″.the-laws) (LL.tells Run′.the-type Run″.the-laws) fullShare v-run vs b-v-run o-v-run $ move ! (1 ∷ []) $ peeks ! Run′.the-row (Is Run′.the-row) (shows 𝓤 H A Run′.the-row) v-run ((LL.val Run′.the-type Run″.the-laws v-run) ∷ []) (λ v-run-is. drop ! $ use1 W (‵ (fat fullShare τ-Run b-v-run o-v-run (LL.val Run′.the-type Run″.the-laws v-run))) (W .laws .raw-at fullShare τ-Run b-v-run o-v-run (LL.val Run′.the-type Run″.the-laws v-run)) $ assigns ! (of-opd ! (load ! (from ! (hop ! (look ! 50 refl) (fld ! {τ = τ-Mark} refl (stop !)))) (look-in ! 0 (sub ! {τs = (tcons τ-Mark (tcons τ-Body tnil))} 0 refl (whole !))))) (from ! (stop !)) (init ! 40 refl (LL.lawful Mark′.the-type Mark″.the-laws 𝓤 H A W .typed (v-run .mark) _ (LL.owed Run′.the-type Run″.the-laws v-run _ v-run-is .0) .0)) $ assigns ! (of-opd ! (load ! (from ! (hop ! (look ! 50 refl) (fld ! {τ = τ-Body} refl (fld ! {τ = τ-Plan} refl (stop !))))) (look-in ! 0 (sub ! {τs = (tcons τ-Plan (tcons τ-Places (tcons τ-nine (tcons τ-Slopes (tcons τ-Widest (tcons (tyInt w64) (tcons τ-Track (tcons τ-Trial tnil))))))))} 0 refl (sub ! {τs = (tcons τ-Mark (tcons τ-Body tnil))} 1 refl (whole !)))))) (from ! (stop !)) (init ! 38 refl (LL.lawful Plan′.the-type Plan″.the-laws 𝓤 H A W .typed (v-run .body .plan) _ (LL.owed Body′.the-type Body″.the-laws (v-run .body) _ (body-of v-run _ v-run-is) .0) .0)) $ assigns ! (of-opd ! (load ! (from ! (hop ! (look ! 50 refl) (fld ! {τ = τ-Body} refl (fld ! {τ = τ-Track} refl (stop !))))) (look-in ! 0 (sub ! {τs = (tcons τ-Plan (tcons τ-Places (tcons τ-nine (tcons τ-Slopes (tcons τ-Widest (tcons (tyInt w64) (tcons τ-Track (tcons τ-Trial tnil))))))))} 6 refl (sub ! {τs = (tcons τ-Mark (tcons τ-Body tnil))} 1 refl (whole !)))))) (from ! (stop !)) (init ! 36 refl (LL.lawful Track′.the-type Track″.the-laws 𝓤 H A W .typed (v-run .body .track) _ (LL.owed Body′.the-type Body″.the-laws (v-run .body) _ (body-of v-run _ v-run-is) .1 .1 .1 .1 .1 .1 .0) .0)) $ assigns ! (of-opd ! (load ! (from ! (hop ! (look ! 50 refl) (fld ! {τ = τ-Body} refl (fld ! {τ = τ-Trial} refl (stop !))))) (look-in ! 0 (sub ! {τs = (tcons τ-Plan (tcons τ-Places (tcons τ-nine (tcons τ-Slopes (tcons τ-Widest (tcons (tyInt w64) (tcons τ-Track (tcons τ-Trial tnil))))))))} 7 refl (sub ! {τs = (tcons τ-Mark (tcons τ-Body tnil))} 1 refl (whole !)))))) (from ! (stop !)) (init ! 34 refl (LL.lawful Trial′.the-type Trial″.the-laws 𝓤 H A W .typed (v-run .body .trial) _ (LL.owed Body′.the-type Body″.the-laws (v-run .body) _ (body-of v-run _ v-run-is) .1 .1 .1 .1 .1 .1 .1 .0) .0)) $ assigns ! (of-opd ! (load ! (from ! (hop ! (look ! 50 refl) (fld ! {τ = τ-Body} refl (fld ! {τ = (tyInt w64)} refl (stop !))))) (look-in ! 0 (sub ! {τs = (tcons τ-Plan (tcons τ-Places (tcons τ-nine (tcons τ-Slopes (tcons τ-Widest (tcons (tyInt w64) (tcons τ-Track (tcons τ-Trial tnil))))))))} 5 refl (sub ! {τs = (tcons τ-Mark (tcons τ-Body tnil))} 1 refl (whole !)))))) (from ! (stop !)) (init ! 32 refl (uint-lawful 𝓤 H A W w64 .typed (v-run .body .«startup_iters») _ (LL.owed Body′.the-type Body″.the-laws (v-run .body) _ (body-of v-run _ v-run-is) .1 .1 .1 .1 .1 .0) .0)) $ assigns ! (of-opd ! (load ! (from ! (fld ! refl (stop !))) (look-in ! 44 (sub ! 1 refl (whole !))))) (from ! (stop !)) (init ! 30 refl (tt, record { fits = v-out-room .0 })) $ use1 W (‵ (fat fullShare (rawTy τ-Run) b-v-run o-v-run (LL.val Run′.the-type Run″.the-laws v-run))) (W .laws .at-raw fullShare τ-Run b-v-run o-v-run (LL.val Run′.the-type Run″.the-laws v-run)) $ owned ! Run′.the-row (Is Run′.the-row) (LL.makes Run′.the-type Run″.the-plain 𝓤 H A) v-run _ v-run-is $ move ! (1 ∷ 0 ∷ 2 ∷ 3 ∷ 4 ∷ []) $ closes ! tt Run′.the-row v-run ((LL.val Run′.the-type Run″.the-laws v-run) ∷ []) b-v-run o-v-run $
         -- the call of look_at
         nothing ! $ use1 W (raw (Callee-look-at 𝓤 H A at-mem run-of .pre to-look-at)) (goes-look-at v-run-is) $ calls-at ! fm (Callee-look-at 𝓤 H A at-mem run-of) known-look-at to-look-at (and-then ! (load ! (from ! (stop !)) (look ! 40 refl)) (and-then ! (load ! (from ! (stop !)) (look ! 38 refl)) (and-then ! (load ! (from ! (stop !)) (look ! 36 refl)) (and-then ! (load ! (from ! (stop !)) (look ! 34 refl)) (and-then ! (load ! (from ! (stop !)) (look ! 32 refl)) (and-then ! (load ! (from ! (stop !)) (look ! 48 refl)) (and-then ! (load ! (from ! (stop !)) (look ! 46 refl)) (and-then ! (load ! (from ! (stop !)) (look ! 30 refl)) (no-more !))))))))) (λ w-l.
-        use1 W (later (some (λ (l : Look). (‵ ftrue ⊛ ‵ (Look′.the-row .own l (w-l ∷ []))) ⊛ raw (ensured 𝓤 H A g-look-at.ended (g-look-at.clauses 𝓤 H A at-mem run-of) tt ((v-run .mark), ((v-run .body .plan), ((v-run .body .track), ((v-run .body .trial), ((v-run .body .«startup_iters»), (v-number, (v-a, ((length v-out), tt)))))))) tt l)))) (id⊢ 𝓤 _) $ await ! tt $ pick ! (λ l. split ! $ move ! (1 ∷ []) $ use1 W (some (λ (zs : Unit {0} × (Unit {0} × (Unit {0} × (Unit {0} × (Unit {0} × (Unit {0} × (Unit {0} × (Unit {0} × (Unit {0}))))))))). ‵ (lasts g-look-at.ended tt ((v-run .mark), ((v-run .body .plan), ((v-run .body .track), ((v-run .body .trial), ((v-run .body .«startup_iters»), (v-number, (v-a, ((length v-out), tt)))))))) zs) ⊛ raw (fact 𝓤 (l ≡ lookedAt (v-run .mark) (v-run .body .plan) (v-run .body .track) (v-run .body .trial) (v-run .body .«startup_iters») v-number v-a (length v-out))))) (id⊢ 𝓤 _) $ pick ! (λ zs-l. split ! $ move ! (1 ∷ []) $ heard ! (l ≡ lookedAt (v-run .mark) (v-run .body .plan) (v-run .body .track) (v-run .body .trial) (v-run .body .«startup_iters») v-number v-a (length v-out)) (λ e-l. fsplit ! $ drop ! $ fsplit ! $ drop ! $ fsplit ! $ drop ! $ fsplit ! $ drop ! $ fsplit ! $ drop ! $ fsplit ! $ drop ! $ fsplit ! $ drop ! $ fsplit ! $ drop ! $ move ! (1 ∷ []) $ split ! $ move ! (1 ∷ []) $ peeks ! Look′.the-row (Is Look′.the-row) (shows 𝓤 H A Look′.the-row) l (w-l ∷ []) (λ l-was. land ! (from ! (stop !)) (init ! 44 refl (LL.lawful Look′.the-type Look″.the-laws 𝓤 H A W .typed l _ l-was .0)) $ rewrite ! 44 (λ (u : Val). ‵ (fat fullShare Look″.mir l-5 0 u)) (ap only (LL.tells Look′.the-type Look″.the-laws l (w-l ∷ []) l-was)) refl $ assigns ! (of-opd ! (load ! (from ! (fld ! {τ = tyBool} refl (stop !))) (look-in ! 44 (sub ! {τs = (tcons tyBool (tcons tyBool (tcons τ-Mark (tcons τ-State (tcons (tyInt w64) tnil)))))} 0 refl (whole !))))) (from ! (stop !)) (init ! 30 refl (bool-lawful 𝓤 H A W .typed (l .again) _ (LL.owed Look′.the-type Look″.the-laws l _ l-was .0) .0)) $ first ! $ branches ! (load ! (from ! (stop !)) (look ! 30 refl))
+        use1 W (later (some (λ (l : Look). ((‵ ftrue) ⊛ ‵ (Look′.the-row .own l (w-l ∷ []))) ⊛ raw (ensured 𝓤 H A g-look-at.ended (g-look-at.clauses 𝓤 H A at-mem run-of) tt ((v-run .mark), ((v-run .body .plan), ((v-run .body .track), ((v-run .body .trial), ((v-run .body .«startup_iters»), (v-number, (v-a, ((length v-out), tt)))))))) tt l)))) (id⊢ 𝓤 _) $ await ! tt $ pick ! (λ l. split ! $ move ! (1 ∷ []) $ use1 W (some (λ (zs : Unit {0} × (Unit {0} × (Unit {0} × (Unit {0} × (Unit {0} × (Unit {0} × (Unit {0} × (Unit {0} × (Unit {0}))))))))). ‵ (lasts g-look-at.ended tt ((v-run .mark), ((v-run .body .plan), ((v-run .body .track), ((v-run .body .trial), ((v-run .body .«startup_iters»), (v-number, (v-a, ((length v-out), tt)))))))) zs) ⊛ raw (fact 𝓤 (l ≡ lookedAt (v-run .mark) (v-run .body .plan) (v-run .body .track) (v-run .body .trial) (v-run .body .«startup_iters») v-number v-a (length v-out))))) (id⊢ 𝓤 _) $ pick ! (λ zs-l. split ! $ move ! (1 ∷ []) $ heard ! (l ≡ lookedAt (v-run .mark) (v-run .body .plan) (v-run .body .track) (v-run .body .trial) (v-run .body .«startup_iters») v-number v-a (length v-out)) (λ e-l. fsplit ! $ drop ! $ fsplit ! $ drop ! $ fsplit ! $ drop ! $ fsplit ! $ drop ! $ fsplit ! $ drop ! $ fsplit ! $ drop ! $ fsplit ! $ drop ! $ fsplit ! $ drop ! $ move ! (1 ∷ []) $ split ! $ move ! (1 ∷ []) $ peeks ! Look′.the-row (Is Look′.the-row) (shows 𝓤 H A Look′.the-row) l (w-l ∷ []) (λ l-was. land ! (from ! (stop !)) (init ! 44 refl (LL.lawful Look′.the-type Look″.the-laws 𝓤 H A W .typed l _ l-was .0)) $ rewrite ! 44 (λ (u : Val). ‵ (fat fullShare Look″.mir l-5 0 u)) (ap only (LL.tells Look′.the-type Look″.the-laws l (w-l ∷ []) l-was)) refl $ assigns ! (of-opd ! (load ! (from ! (fld ! {τ = tyBool} refl (stop !))) (look-in ! 44 (sub ! {τs = (tcons tyBool (tcons tyBool (tcons τ-Mark (tcons τ-State (tcons (tyInt w64) tnil)))))} 0 refl (whole !))))) (from ! (stop !)) (init ! 30 refl (bool-lawful 𝓤 H A W .typed (l .again) _ (LL.owed Look′.the-type Look″.the-laws l _ l-was .0) .0)) $ first ! $ branches ! (load ! (from ! (stop !)) (look ! 30 refl))
         -- try_again
         (λ yes. assigns ! (addr ! (from ! (hop ! (look ! 52 refl) (stop !)))) (from ! (stop !)) (init ! 28 refl (tt, tt)) $ assigns ! (addr ! (from ! (fld ! refl (hop ! (look-in ! 46 (sub ! 0 refl (whole !))) (stop !))))) (from ! (stop !)) (init ! 26 refl (tt, tt)) $ assigns ! (agg ! (and-then ! (load ! (from ! (stop !)) (look ! 26 refl)) (and-then ! (load ! (from ! (fld ! refl (stop !))) (look-in ! 46 (sub ! 1 refl (whole !)))) (no-more !)))) (from ! (stop !)) (init ! 24 refl (tt, (tt, (record { fits = v-out-room .0 }, tt)))) $ move ! (3 ∷ 4 ∷ []) $ feqI ! (List Val) ((vptr b-v-run o-v-run) ∷ []) ((vptr b-v-run o-v-run) ∷ []) refl $ fjoin3 ! $ move ! (7 ∷ []) $ move ! (1 ∷ 0 ∷ []) $ join ! $ move ! (5 ∷ 0 ∷ []) $ join ! $ move ! (4 ∷ 0 ∷ []) $ join ! $ use1 W (raw (Callee-try-again 𝓤 H A at-mem run-of .pre (to-try-again l))) (goes-try-again l (subst (Is Look′.the-row l) (LL.tells Look′.the-type Look″.the-laws l (w-l ∷ []) l-was) l-was)) $ calls-at ! fm (Callee-try-again 𝓤 H A at-mem run-of) known-try-again (to-try-again l) (and-then ! (load ! (from ! (stop !)) (look ! 24 refl)) (and-then ! (load ! (from ! (stop !)) (look ! 40 refl)) (and-then ! (load ! (from ! (stop !)) (look ! 20 refl)) (no-more !)))) (λ w.
         use1 W (later (some (λ (r : Reply). ((‵ (flft κ-v-run q-v-run) ⊛ ‵ (flft κ-v-out q-v-out) ⊛ ‵ ftrue) ⊛ ‵ (Reply′.the-row .own r (w ∷ []))) ⊛ raw (ensured 𝓤 H A g-try-again.ended (g-try-again.clauses 𝓤 H A at-mem run-of) (κ-v-run, (κ-v-out, tt)) (x-v-run, (l, (x-v-out, tt))) tt r)))) (id⊢ 𝓤 _) $ await ! tt $ pick ! (λ r. split ! $ move ! (1 ∷ []) $ use1 W (some (λ (zs : Run × (Unit {0} × (List Float × (Unit {0})))). ‵ (lasts g-try-again.ended (κ-v-run, (κ-v-out, tt)) (x-v-run, (l, (x-v-out, tt))) zs) ⊛ raw (fact 𝓤 ((r ≡ triedReply l (v-run .body .plan) (v-run .body .track) (v-run .body .trial) .reply) × ((zs .0) ≡ triedRun (v-run) (triedReply l (v-run .body .plan) (v-run .body .track) (v-run .body .trial))) × ((zs .1 .1 .0) ≡ v-out))))) (id⊢ 𝓤 _) $ pick ! (λ zs. split ! $ move ! (1 ∷ []) $ heard ! ((r ≡ triedReply l (v-run .body .plan) (v-run .body .track) (v-run .body .trial) .reply) × ((zs .0) ≡ triedRun (v-run) (triedReply l (v-run .body .plan) (v-run .body .track) (v-run .body .trial))) × ((zs .1 .1 .0) ≡ v-out)) (λ e. fsplit ! $ move ! (1 ∷ []) $ fsplit ! $ drop ! $ fsplit ! $ fsplit ! $ move ! (1 ∷ []) $ feqL ! (λ l-v-out. move ! (3 ∷ []) $ split ! $ split ! $ move ! (1 ∷ []) $ split ! $ move ! (3 ∷ []) $ peeks ! Reply′.the-row (Is Reply′.the-row) (shows 𝓤 H A Reply′.the-row) r (w ∷ []) (λ is. land ! (from ! (stop !)) (init ! 56 refl (LL.lawful Reply′.the-type Reply″.the-laws 𝓤 H A W .typed r _ is .0)) $ rewrite ! 56 (λ (u : Val). ‵ (fat fullShare Reply″.mir l-0 0 u)) (ap only (LL.tells Reply′.the-type Reply″.the-laws r (w ∷ []) is)) refl $ returns-within ! Post refl (look ! 56 refl) $ forget ! 26 refl $ forget ! 28 refl $ forget ! 30 refl $ forget ! 32 refl $ forget ! 34 refl $ forget ! 36 refl $ forget ! 38 refl $ forget ! 40 refl $ forget ! 42 refl $ forget ! 44 refl $ forget ! 46 refl $ forget ! 48 refl $ forget ! 50 refl $ forget ! 52 refl $ forget ! 54 refl $ forget ! 56 refl $ move ! (56 ∷ 57 ∷ []) $ free1 ! $ move ! (54 ∷ 55 ∷ []) $ free1 ! $ move ! (52 ∷ 53 ∷ []) $ free1 ! $ move ! (50 ∷ 51 ∷ []) $ free1 ! $ move ! (48 ∷ 49 ∷ []) $ free1 ! $ move ! (46 ∷ 47 ∷ []) $ free1 ! $ move ! (44 ∷ 45 ∷ []) $ free1 ! $ move ! (42 ∷ 43 ∷ []) $ free1 ! $ move ! (40 ∷ 41 ∷ []) $ free1 ! $ move ! (38 ∷ 39 ∷ []) $ free1 ! $ move ! (36 ∷ 37 ∷ []) $ free1 ! $ move ! (34 ∷ 35 ∷ []) $ free1 ! $ move ! (32 ∷ 33 ∷ []) $ free1 ! $ move ! (30 ∷ 31 ∷ []) $ free1 ! $ move ! (28 ∷ 29 ∷ []) $ free1 ! $ move ! (26 ∷ 27 ∷ []) $ free1 ! $ move ! (24 ∷ 25 ∷ []) $ free1 ! $ move ! (22 ∷ 23 ∷ []) $ free1 ! $ move ! (20 ∷ 21 ∷ []) $ free1 ! $ move ! (18 ∷ 19 ∷ []) $ free1 ! $ move ! (16 ∷ 17 ∷ []) $ free1 ! $ move ! (14 ∷ 15 ∷ []) $ free1 ! $ free0 ! $ keep ! (3 ∷ 1 ∷ 6 ∷ 4 ∷ []) $ by ! (exits r (zs .0) (zs .1 .1 .0) (e .0 ∙ again-reply v-run v-number v-a v-out l e-l (holds _ yes) .0, e .1 ∙ again-reply v-run v-number v-a v-out l e-l (holds _ yes) .1, e .2 ∙ again-reply v-run v-number v-a v-out l e-l (holds _ yes) .2) l-v-out (subst (Is Reply′.the-row r) (LL.tells Reply′.the-type Reply″.the-laws r (w ∷ []) is) is)))))))))

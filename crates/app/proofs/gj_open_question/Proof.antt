@@ -126,9 +126,9 @@ module _ {M : Type 1} (𝓤 : URA M) (H : Heap 𝓤) (A : Atoms 𝓤) (W : Given
         move ! (2 ∷ []) $ fsplit3 ! $ drop ! $ move ! (1 ∷ 2 ∷ []) $ looks ! tt Run′.the-row (Is Run′.the-row) (shows 𝓤 H A Run′.the-row) (LL.vals Run′.the-type Run″.the-laws) (LL.tells Run′.the-type Run″.the-laws) (LL.copy Run′.the-type Run″.the-copy 𝓤 H A W) v-run b-v-run o-v-run (λ p us. spelt ! Run′.the-row (Is Run′.the-row) (shows 𝓤 H A Run′.the-row) (LL.vals Run′.the-type Run″.the-laws) (LL.tells Run′.the-type Run″.the-laws) p v-run us b-v-run o-v-run $ move ! (1 ∷ []) $ peeks ! Run′.the-row (Is Run′.the-row) (shows 𝓤 H A Run′.the-row) v-run ((LL.val Run′.the-type Run″.the-laws v-run) ∷ []) (λ v-run-is. move ! (1 ∷ 0 ∷ []) $ assigns ! (of-opd ! (load ! (from ! (hop ! (look ! 9 refl) (stop !))) (look-raw ! 0 refl))) (from ! (stop !)) (init ! 7 refl (LL.lawful Run′.the-type Run″.the-laws 𝓤 H A W .typed v-run _ v-run-is .0)) $ shuts ! tt Run′.the-row p v-run ((LL.val Run′.the-type Run″.the-laws v-run) ∷ []) b-v-run o-v-run $
         -- the call
         nothing ! $ use1 W (raw (Callee-open-in 𝓤 H A at-mem run-of .pre to-callee)) (goes v-run-is) $ calls-at ! fm (Callee-open-in 𝓤 H A at-mem run-of) known-open-in to-callee (and-then ! (load ! (from ! (stop !)) (look ! 6 refl)) (no-more !)) (λ w.
-        use1 W (later (some (λ (r : Reply). ((‵ ftrue) ⊛ ‵ (Reply′.the-row .own r (w ∷ []))) ⊛ raw (ensured 𝓤 H A g-open-in.ended (g-open-in.clauses 𝓤 H A at-mem run-of) tt (v-run, tt) tt r)))) (id⊢ 𝓤 _) $ await ! tt $ pick ! (λ r. split ! $ move ! (1 ∷ []) $ use1 W (some (λ (zs : Unit {0} × (Unit {0})). ‵ (lasts g-open-in.ended tt (v-run, tt) zs) ⊛ raw (fact 𝓤 (r ≡ replyOf (openQuestion v-run))))) (id⊢ 𝓤 _) $ pick ! (λ zs. split ! $ move ! (1 ∷ []) $ heard ! (r ≡ replyOf (openQuestion v-run)) (λ e. fsplit ! $ drop ! $
+        use1 W (later (some (λ (r : Reply). ((‵ ftrue) ⊛ ‵ (Reply′.the-row .own r (w ∷ []))) ⊛ raw (ensured 𝓤 H A g-open-in.ended (g-open-in.clauses 𝓤 H A at-mem run-of) tt (v-run, tt) tt r)))) (id⊢ 𝓤 _) $ await ! tt $ pick ! (λ r. split ! $ move ! (1 ∷ []) $ use1 W (some (λ (zs : Unit {0} × (Unit {0})). ‵ (lasts g-open-in.ended tt (v-run, tt) zs) ⊛ raw (fact 𝓤 (r ≡ replyOf (openQuestion v-run))))) (id⊢ 𝓤 _) $ pick ! (λ zs. split ! $ move ! (1 ∷ []) $ heard ! (r ≡ replyOf (openQuestion v-run)) (λ e. fsplit ! $ drop ! $ move ! (1 ∷ []) $ split ! $ move ! (1 ∷ []) $
         -- the result lands in its local, with its machine value written out
-        move ! (1 ∷ []) $ split ! $ move ! (1 ∷ []) $ peeks ! Reply′.the-row (Is Reply′.the-row) (shows 𝓤 H A Reply′.the-row) r (w ∷ []) (λ is. land ! (from ! (stop !)) (init ! 12 refl (LL.lawful Reply′.the-type Reply″.the-laws 𝓤 H A W .typed r _ is .0)) $ rewrite ! 12 (λ (u : Val). ‵ (fat fullShare Reply″.mir l-0 0 u)) (ap only (LL.tells Reply′.the-type Reply″.the-laws r (w ∷ []) is)) refl $
+        peeks ! Reply′.the-row (Is Reply′.the-row) (shows 𝓤 H A Reply′.the-row) r (w ∷ []) (λ is. land ! (from ! (stop !)) (init ! 12 refl (LL.lawful Reply′.the-type Reply″.the-laws 𝓤 H A W .typed r _ is .0)) $ rewrite ! 12 (λ (u : Val). ‵ (fat fullShare Reply″.mir l-0 0 u)) (ap only (LL.tells Reply′.the-type Reply″.the-laws r (w ∷ []) is)) refl $
         -- the locals are freed
         returns ! (look ! 12 refl) $ forget ! 8 refl $ forget ! 10 refl $ forget ! 12 refl $ move ! (12 ∷ 13 ∷ []) $ free1 ! $ move ! (10 ∷ 11 ∷ []) $ free1 ! $ move ! (8 ∷ 9 ∷ []) $ free1 ! $ free0 ! $ keep ! (3 ∷ 5 ∷ 4 ∷ []) $ by ! (exits r e (subst (Is Reply′.the-row r) (LL.tells Reply′.the-type Reply″.the-laws r (w ∷ []) is) is))))))))))))
 

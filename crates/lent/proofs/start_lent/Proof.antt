@@ -161,9 +161,9 @@ module _ {M : Type 1} (𝓤 : URA M) (H : Heap 𝓤) (A : Atoms 𝓤) (W : Given
         move ! (8 ∷ []) $ fsplit3 ! $ drop ! $ opens ! tt Run′.the-row {h = v-run} b-v-run o-v-run (λ vs. spelt ! Run′.the-row (Is Run′.the-row) (shows 𝓤 H A Run′.the-row) (LL.vals Run′.the-type Run″.the-laws) (LL.tells Run′.the-type Run″.the-laws) fullShare v-run vs b-v-run o-v-run $ move ! (1 ∷ []) $ peeks ! Run′.the-row (Is Run′.the-row) (shows 𝓤 H A Run′.the-row) v-run ((LL.val Run′.the-type Run″.the-laws v-run) ∷ []) (λ v-run-is. drop ! $ use1 W (‵ (fat fullShare τ-Run b-v-run o-v-run (LL.val Run′.the-type Run″.the-laws v-run))) (W .laws .raw-at fullShare τ-Run b-v-run o-v-run (LL.val Run′.the-type Run″.the-laws v-run)) $
         -- the call
         nothing ! $ use1 W (raw (Callee-start 𝓤 H A at-mem run-of .pre to-callee)) goes $ calls-at ! fm (Callee-start 𝓤 H A at-mem run-of) known-start to-callee (and-then ! (load ! (from ! (stop !)) (look ! 22 refl)) (and-then ! (load ! (from ! (stop !)) (look ! 20 refl)) (and-then ! (load ! (from ! (stop !)) (look ! 18 refl)) (and-then ! (load ! (from ! (stop !)) (look ! 16 refl)) (and-then ! (load ! (from ! (stop !)) (look ! 14 refl)) (no-more !)))))) (λ w.
-        use1 W (later (some (λ (r : Answered). ((‵ ftrue) ⊛ ‵ (Answered′.the-row .own r (w ∷ []))) ⊛ raw (ensured 𝓤 H A g-start.ended (g-start.clauses 𝓤 H A at-mem run-of) tt (v-settings, (v-t0, (v-tf, (v-r0, (v-v0, tt))))) tt r)))) (id⊢ 𝓤 _) $ await ! tt $ pick ! (λ r. split ! $ move ! (1 ∷ []) $ use1 W (some (λ (zs : Unit {0} × (Unit {0} × (Unit {0} × (Unit {0} × (Unit {0} × (Unit {0})))))). ‵ (lasts g-start.ended tt (v-settings, (v-t0, (v-tf, (v-r0, (v-v0, tt))))) zs) ⊛ raw (fact 𝓤 (r ≡ started v-settings v-t0 v-tf v-r0 v-v0)))) (id⊢ 𝓤 _) $ pick ! (λ zs. split ! $ move ! (1 ∷ []) $ heard ! (r ≡ started v-settings v-t0 v-tf v-r0 v-v0) (λ e. fsplit ! $ drop ! $ fsplit ! $ drop ! $ fsplit ! $ drop ! $ fsplit ! $ drop ! $ fsplit ! $ drop ! $
+        use1 W (later (some (λ (r : Answered). ((‵ ftrue) ⊛ ‵ (Answered′.the-row .own r (w ∷ []))) ⊛ raw (ensured 𝓤 H A g-start.ended (g-start.clauses 𝓤 H A at-mem run-of) tt (v-settings, (v-t0, (v-tf, (v-r0, (v-v0, tt))))) tt r)))) (id⊢ 𝓤 _) $ await ! tt $ pick ! (λ r. split ! $ move ! (1 ∷ []) $ use1 W (some (λ (zs : Unit {0} × (Unit {0} × (Unit {0} × (Unit {0} × (Unit {0} × (Unit {0})))))). ‵ (lasts g-start.ended tt (v-settings, (v-t0, (v-tf, (v-r0, (v-v0, tt))))) zs) ⊛ raw (fact 𝓤 (r ≡ started v-settings v-t0 v-tf v-r0 v-v0)))) (id⊢ 𝓤 _) $ pick ! (λ zs. split ! $ move ! (1 ∷ []) $ heard ! (r ≡ started v-settings v-t0 v-tf v-r0 v-v0) (λ e. fsplit ! $ drop ! $ fsplit ! $ drop ! $ fsplit ! $ drop ! $ fsplit ! $ drop ! $ fsplit ! $ drop ! $ move ! (1 ∷ []) $ split ! $ move ! (1 ∷ []) $
         -- the result lands in its local, with its machine value written out
-        move ! (1 ∷ []) $ split ! $ move ! (1 ∷ []) $ peeks ! Answered′.the-row (Is Answered′.the-row) (shows 𝓤 H A Answered′.the-row) r (w ∷ []) (λ is. land ! (from ! (stop !)) (init ! 14 refl (LL.lawful Answered′.the-type Answered″.the-laws 𝓤 H A W .typed r _ is .0)) $ rewrite ! 14 (λ (u : Val). ‵ (fat fullShare Answered″.mir l-7 0 u)) (ap only (LL.tells Answered′.the-type Answered″.the-laws r (w ∷ []) is)) refl $
+        peeks ! Answered′.the-row (Is Answered′.the-row) (shows 𝓤 H A Answered′.the-row) r (w ∷ []) (λ is. land ! (from ! (stop !)) (init ! 14 refl (LL.lawful Answered′.the-type Answered″.the-laws 𝓤 H A W .typed r _ is .0)) $ rewrite ! 14 (λ (u : Val). ‵ (fat fullShare Answered″.mir l-7 0 u)) (ap only (LL.tells Answered′.the-type Answered″.the-laws r (w ∷ []) is)) refl $
         -- what changes is stored in its place, and the last field is the result
         assigns ! (of-opd ! (load ! (from ! (fld ! {τ = τ-Run} refl (stop !))) (look-in ! 14 (sub ! {τs = (tcons τ-Run (tcons τ-Outcome tnil))} 0 refl (whole !))))) (from ! (hop ! (look ! 26 refl) (stop !))) (store-in ! 3 (whole !) (LL.lawful Run′.the-type Run″.the-laws 𝓤 H A W .typed (r .run) _ (run-is r _ is) .0)) $ assigns ! (of-opd ! (load ! (from ! (fld ! {τ = τ-Outcome} refl (stop !))) (look-in ! 14 (sub ! {τs = (tcons τ-Run (tcons τ-Outcome tnil))} 1 refl (whole !))))) (from ! (stop !)) (init ! 28 refl (EL.lawful Outcome′.the-type Outcome″.the-laws 𝓤 H A W tt .typed (r .outcome) _ (outcome-is r _ is) .0)) $ move ! (3 ∷ []) $ use1 W (‵ (fat fullShare (rawTy τ-Run) b-v-run o-v-run (LL.val Run′.the-type Run″.the-laws (r .run)))) (W .laws .at-raw fullShare τ-Run b-v-run o-v-run (LL.val Run′.the-type Run″.the-laws (r .run))) $ owned ! Run′.the-row (Is Run′.the-row) (LL.makes Run′.the-type Run″.the-plain 𝓤 H A) (r .run) _ (run-is r _ is) $ move ! (1 ∷ 0 ∷ 5 ∷ 6 ∷ 7 ∷ []) $ closes ! tt Run′.the-row (r .run) ((LL.val Run′.the-type Run″.the-laws (r .run)) ∷ []) b-v-run o-v-run $
         -- the locals are freed

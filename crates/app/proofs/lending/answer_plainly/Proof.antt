@@ -166,9 +166,9 @@ module _ {M : Type 1} (𝓤 : URA M) (H : Heap 𝓤) (A : Atoms 𝓤) (W : Given
         move ! (7 ∷ []) $ fsplit3 ! $ drop ! $ move ! (0 ∷ 1 ∷ 4 ∷ []) $ opens ! tt Run′.the-row {h = v-run} b-v-run o-v-run (λ vs. spelt ! Run′.the-row (Is Run′.the-row) (shows 𝓤 H A Run′.the-row) (LL.vals Run′.the-type Run″.the-laws) (LL.tells Run′.the-type Run″.the-laws) fullShare v-run vs b-v-run o-v-run $ move ! (1 ∷ []) $ peeks ! Run′.the-row (Is Run′.the-row) (shows 𝓤 H A Run′.the-row) v-run ((LL.val Run′.the-type Run″.the-laws v-run) ∷ []) (λ v-run-is. drop ! $ use1 W (‵ (fat fullShare τ-Run b-v-run o-v-run (LL.val Run′.the-type Run″.the-laws v-run))) (W .laws .raw-at fullShare τ-Run b-v-run o-v-run (LL.val Run′.the-type Run″.the-laws v-run)) $ assigns ! (of-opd ! (load ! (from ! (hop ! (look ! 24 refl) (stop !))) (look-in ! 0 (whole !)))) (from ! (stop !)) (init ! 14 refl (LL.lawful Run′.the-type Run″.the-laws 𝓤 H A W .typed v-run _ v-run-is .0)) $ assigns ! (addr ! (from ! (fld ! refl (hop ! (look-in ! 18 (sub ! 0 refl (whole !))) (stop !))))) (from ! (stop !)) (init ! 12 refl (tt, tt)) $ assigns ! (agg ! (and-then ! (load ! (from ! (stop !)) (look ! 12 refl)) (and-then ! (load ! (from ! (fld ! refl (stop !))) (look-in ! 18 (sub ! 1 refl (whole !)))) (no-more !)))) (from ! (stop !)) (init ! 10 refl (tt, (tt, (record { fits = v-out-room .0 }, tt)))) $
         -- the call
         move ! (6 ∷ []) $ move ! (5 ∷ 0 ∷ []) $ join ! $ use1 W (raw (Callee-answered-by 𝓤 H A at-mem run-of .pre to-callee)) (goes v-run-is) $ calls-at ! fm (Callee-answered-by 𝓤 H A at-mem run-of) known-answered-by to-callee (and-then ! (load ! (from ! (stop !)) (look ! 13 refl)) (and-then ! (load ! (from ! (stop !)) (look ! 21 refl)) (and-then ! (load ! (from ! (stop !)) (look ! 19 refl)) (and-then ! (load ! (from ! (stop !)) (look ! 9 refl)) (no-more !))))) (λ w.
-        use1 W (later (some (λ (r : Replied). ((‵ (flft κ-v-out q-v-out) ⊛ ‵ ftrue) ⊛ ‵ (Replied′.the-row .own r (w ∷ []))) ⊛ raw (ensured 𝓤 H A g-answered-by.ended (g-answered-by.clauses 𝓤 H A at-mem run-of) (κ-v-out, tt) (v-run, (v-number, (v-a, (x-v-out, tt)))) tt r)))) (id⊢ 𝓤 _) $ await ! tt $ pick ! (λ r. split ! $ move ! (1 ∷ []) $ use1 W (some (λ (zs : Unit {0} × (Unit {0} × (Unit {0} × (List Float × (Unit {0}))))). ‵ (lasts g-answered-by.ended (κ-v-out, tt) (v-run, (v-number, (v-a, (x-v-out, tt)))) zs) ⊛ raw (fact 𝓤 ((r ≡ repliedOf (answered v-run v-number v-a (v-out) .got)) × ((zs .1 .1 .1 .0) ≡ answered v-run v-number v-a (v-out) .out))))) (id⊢ 𝓤 _) $ pick ! (λ zs. split ! $ move ! (1 ∷ []) $ heard ! ((r ≡ repliedOf (answered v-run v-number v-a (v-out) .got)) × ((zs .1 .1 .1 .0) ≡ answered v-run v-number v-a (v-out) .out)) (λ e. fsplit ! $ drop ! $ fsplit ! $ drop ! $ fsplit ! $ drop ! $ fsplit ! $ fsplit ! $ move ! (1 ∷ []) $ feqL ! (λ l-v-out.
+        use1 W (later (some (λ (r : Replied). ((‵ (flft κ-v-out q-v-out) ⊛ ‵ ftrue) ⊛ ‵ (Replied′.the-row .own r (w ∷ []))) ⊛ raw (ensured 𝓤 H A g-answered-by.ended (g-answered-by.clauses 𝓤 H A at-mem run-of) (κ-v-out, tt) (v-run, (v-number, (v-a, (x-v-out, tt)))) tt r)))) (id⊢ 𝓤 _) $ await ! tt $ pick ! (λ r. split ! $ move ! (1 ∷ []) $ use1 W (some (λ (zs : Unit {0} × (Unit {0} × (Unit {0} × (List Float × (Unit {0}))))). ‵ (lasts g-answered-by.ended (κ-v-out, tt) (v-run, (v-number, (v-a, (x-v-out, tt)))) zs) ⊛ raw (fact 𝓤 ((r ≡ repliedOf (answered v-run v-number v-a (v-out) .got)) × ((zs .1 .1 .1 .0) ≡ answered v-run v-number v-a (v-out) .out))))) (id⊢ 𝓤 _) $ pick ! (λ zs. split ! $ move ! (1 ∷ []) $ heard ! ((r ≡ repliedOf (answered v-run v-number v-a (v-out) .got)) × ((zs .1 .1 .1 .0) ≡ answered v-run v-number v-a (v-out) .out)) (λ e. fsplit ! $ drop ! $ fsplit ! $ drop ! $ fsplit ! $ drop ! $ fsplit ! $ fsplit ! $ move ! (1 ∷ []) $ feqL ! (λ l-v-out. move ! (2 ∷ []) $ split ! $ split ! $ move ! (2 ∷ []) $
         -- the result lands in its local, with its machine value written out
-        move ! (2 ∷ []) $ split ! $ split ! $ move ! (2 ∷ []) $ peeks ! Replied′.the-row (Is Replied′.the-row) (shows 𝓤 H A Replied′.the-row) r (w ∷ []) (λ is. land ! (from ! (stop !)) (init ! 19 refl (LL.lawful Replied′.the-type Replied″.the-laws 𝓤 H A W .typed r _ is .0)) $ rewrite ! 19 (λ (u : Val). ‵ (fat fullShare Replied″.mir l-5 0 u)) (ap only (LL.tells Replied′.the-type Replied″.the-laws r (w ∷ []) is)) refl $
+        peeks ! Replied′.the-row (Is Replied′.the-row) (shows 𝓤 H A Replied′.the-row) r (w ∷ []) (λ is. land ! (from ! (stop !)) (init ! 19 refl (LL.lawful Replied′.the-type Replied″.the-laws 𝓤 H A W .typed r _ is .0)) $ rewrite ! 19 (λ (u : Val). ‵ (fat fullShare Replied″.mir l-5 0 u)) (ap only (LL.tells Replied′.the-type Replied″.the-laws r (w ∷ []) is)) refl $
         -- what changes is stored in its place, and the last field is the result
         assigns ! (of-opd ! (load ! (from ! (fld ! {τ = τ-Run} refl (stop !))) (look-in ! 19 (sub ! {τs = (tcons τ-Run (tcons τ-Reply tnil))} 0 refl (whole !))))) (from ! (hop ! (look ! 27 refl) (stop !))) (store-in ! 5 (whole !) (LL.lawful Run′.the-type Run″.the-laws 𝓤 H A W .typed (r .run) _ (run-is r _ is) .0)) $ assigns ! (of-opd ! (load ! (from ! (fld ! {τ = τ-Reply} refl (stop !))) (look-in ! 19 (sub ! {τs = (tcons τ-Run (tcons τ-Reply tnil))} 1 refl (whole !))))) (from ! (stop !)) (init ! 29 refl (LL.lawful Reply′.the-type Reply″.the-laws 𝓤 H A W .typed (r .reply) _ (reply-is r _ is) .0)) $ move ! (5 ∷ []) $ use1 W (‵ (fat fullShare (rawTy τ-Run) b-v-run o-v-run (LL.val Run′.the-type Run″.the-laws (r .run)))) (W .laws .at-raw fullShare τ-Run b-v-run o-v-run (LL.val Run′.the-type Run″.the-laws (r .run))) $ owned ! Run′.the-row (Is Run′.the-row) (LL.makes Run′.the-type Run″.the-plain 𝓤 H A) (r .run) _ (run-is r _ is) $ move ! (1 ∷ 0 ∷ 7 ∷ 8 ∷ 9 ∷ []) $ closes ! tt Run′.the-row (r .run) ((LL.val Run′.the-type Run″.the-laws (r .run)) ∷ []) b-v-run o-v-run $
         -- the locals are freed

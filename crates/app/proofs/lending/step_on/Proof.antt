@@ -260,9 +260,9 @@ module _ {M : Type 1} (𝓤 : URA M) (H : Heap 𝓤) (A : Atoms 𝓤) (W : Given
         move ! (7 ∷ []) $ fsplit3 ! $ drop ! $ move ! (0 ∷ 1 ∷ 4 ∷ []) $ opens ! tt Run′.the-row {h = v-run} b-v-run o-v-run (λ vs. spelt ! Run′.the-row (Is Run′.the-row) (shows 𝓤 H A Run′.the-row) (LL.vals Run′.the-type Run″.the-laws) (LL.tells Run′.the-type Run″.the-laws) fullShare v-run vs b-v-run o-v-run $ move ! (1 ∷ []) $ peeks ! Run′.the-row (Is Run′.the-row) (shows 𝓤 H A Run′.the-row) v-run ((LL.val Run′.the-type Run″.the-laws v-run) ∷ []) (λ v-run-is. drop ! $ use1 W (‵ (fat fullShare τ-Run b-v-run o-v-run (LL.val Run′.the-type Run″.the-laws v-run))) (W .laws .raw-at fullShare τ-Run b-v-run o-v-run (LL.val Run′.the-type Run″.the-laws v-run)) $ assigns ! (of-opd ! (load ! (from ! (hop ! (look ! 28 refl) (fld ! {τ = τ-Body} refl (fld ! {τ = τ-Plan} refl (stop !))))) (look-in ! 0 (sub ! {τs = (tcons τ-Plan (tcons τ-Places (tcons τ-nine (tcons τ-Slopes (tcons τ-Widest (tcons (tyInt w64) (tcons τ-Track (tcons τ-Trial tnil))))))))} 0 refl (sub ! {τs = (tcons τ-Mark (tcons τ-Body tnil))} 1 refl (whole !)))))) (from ! (stop !)) (init ! 18 refl (LL.lawful Plan′.the-type Plan″.the-laws 𝓤 H A W .typed (v-run .body .plan) _ (LL.owed Body′.the-type Body″.the-laws (v-run .body) _ (body-of v-run _ v-run-is) .0) .0)) $ assigns ! (of-opd ! (load ! (from ! (hop ! (look ! 28 refl) (fld ! {τ = τ-Body} refl (fld ! {τ = τ-Track} refl (stop !))))) (look-in ! 0 (sub ! {τs = (tcons τ-Plan (tcons τ-Places (tcons τ-nine (tcons τ-Slopes (tcons τ-Widest (tcons (tyInt w64) (tcons τ-Track (tcons τ-Trial tnil))))))))} 6 refl (sub ! {τs = (tcons τ-Mark (tcons τ-Body tnil))} 1 refl (whole !)))))) (from ! (stop !)) (init ! 16 refl (LL.lawful Track′.the-type Track″.the-laws 𝓤 H A W .typed (v-run .body .track) _ (LL.owed Body′.the-type Body″.the-laws (v-run .body) _ (body-of v-run _ v-run-is) .1 .1 .1 .1 .1 .1 .0) .0)) $ assigns ! (of-opd ! (load ! (from ! (hop ! (look ! 28 refl) (fld ! {τ = τ-Body} refl (fld ! {τ = τ-nine} refl (stop !))))) (look-in ! 0 (sub ! {τs = (tcons τ-Plan (tcons τ-Places (tcons τ-nine (tcons τ-Slopes (tcons τ-Widest (tcons (tyInt w64) (tcons τ-Track (tcons τ-Trial tnil))))))))} 2 refl (sub ! {τs = (tcons τ-Mark (tcons τ-Body tnil))} 1 refl (whole !)))))) (from ! (stop !)) (init ! 14 refl (array-lawful 𝓤 H A W Triple′.the-row (LL.lawful Triple′.the-type Triple″.the-laws 𝓤 H A W) 9 .typed (v-run .body .a) _ (nine-is (v-run .body .a) _ (LL.owed Body′.the-type Body″.the-laws (v-run .body) _ (body-of v-run _ v-run-is) .1 .1 .0)) .0)) $ assigns ! (addr ! (from ! (fld ! refl (hop ! (look-in ! 22 (sub ! 0 refl (whole !))) (stop !))))) (from ! (stop !)) (init ! 12 refl (tt, tt)) $ assigns ! (agg ! (and-then ! (load ! (from ! (stop !)) (look ! 12 refl)) (and-then ! (load ! (from ! (fld ! refl (stop !))) (look-in ! 22 (sub ! 1 refl (whole !)))) (no-more !)))) (from ! (stop !)) (init ! 10 refl (tt, (tt, (record { fits = v-out-room .0 }, tt)))) $
         -- the call
         move ! (6 ∷ []) $ move ! (5 ∷ 0 ∷ []) $ join ! $ use1 W (raw (Callee-stepped-reply 𝓤 H A at-mem run-of .pre to-callee)) (goes v-run-is) $ calls-at ! fm (Callee-stepped-reply 𝓤 H A at-mem run-of) known-stepped-reply to-callee (and-then ! (load ! (from ! (stop !)) (look ! 25 refl)) (and-then ! (load ! (from ! (stop !)) (look ! 17 refl)) (and-then ! (load ! (from ! (stop !)) (look ! 15 refl)) (and-then ! (load ! (from ! (stop !)) (look ! 13 refl)) (and-then ! (load ! (from ! (stop !)) (look ! 23 refl)) (and-then ! (load ! (from ! (stop !)) (look ! 9 refl)) (no-more !))))))) (λ w.
-        use1 W (later (some (λ (r : SteppedReply). ((‵ (flft κ-v-out q-v-out) ⊛ ‵ ftrue) ⊛ ‵ (SteppedReply′.the-row .own r (w ∷ []))) ⊛ raw (ensured 𝓤 H A g-stepped-reply.ended (g-stepped-reply.clauses 𝓤 H A at-mem run-of) (κ-v-out, tt) (v-look, ((v-run .body .plan), ((v-run .body .track), ((v-run .body .a), (v-a, (x-v-out, tt)))))) tt r)))) (id⊢ 𝓤 _) $ await ! tt $ pick ! (λ r. split ! $ move ! (1 ∷ []) $ use1 W (some (λ (zs : Unit {0} × (Unit {0} × (Unit {0} × (Unit {0} × (Unit {0} × (List Float × (Unit {0}))))))). ‵ (lasts g-stepped-reply.ended (κ-v-out, tt) (v-look, ((v-run .body .plan), ((v-run .body .track), ((v-run .body .a), (v-a, (x-v-out, tt)))))) zs) ⊛ raw (fact 𝓤 ((r ≡ steppedReply v-look (v-run .body .plan) (v-run .body .track) (v-run .body .a) v-a) × ((zs .1 .1 .1 .1 .1 .0) ≡ keptStep v-look (v-run .body .plan) (v-run .body .track) (v-run .body .a) v-a (v-out)))))) (id⊢ 𝓤 _) $ pick ! (λ zs. split ! $ move ! (1 ∷ []) $ heard ! ((r ≡ steppedReply v-look (v-run .body .plan) (v-run .body .track) (v-run .body .a) v-a) × ((zs .1 .1 .1 .1 .1 .0) ≡ keptStep v-look (v-run .body .plan) (v-run .body .track) (v-run .body .a) v-a (v-out))) (λ e. fsplit ! $ drop ! $ fsplit ! $ drop ! $ fsplit ! $ drop ! $ fsplit ! $ drop ! $ fsplit ! $ drop ! $ fsplit ! $ fsplit ! $ move ! (1 ∷ []) $ feqL ! (λ l-v-out.
+        use1 W (later (some (λ (r : SteppedReply). ((‵ (flft κ-v-out q-v-out) ⊛ ‵ ftrue) ⊛ ‵ (SteppedReply′.the-row .own r (w ∷ []))) ⊛ raw (ensured 𝓤 H A g-stepped-reply.ended (g-stepped-reply.clauses 𝓤 H A at-mem run-of) (κ-v-out, tt) (v-look, ((v-run .body .plan), ((v-run .body .track), ((v-run .body .a), (v-a, (x-v-out, tt)))))) tt r)))) (id⊢ 𝓤 _) $ await ! tt $ pick ! (λ r. split ! $ move ! (1 ∷ []) $ use1 W (some (λ (zs : Unit {0} × (Unit {0} × (Unit {0} × (Unit {0} × (Unit {0} × (List Float × (Unit {0}))))))). ‵ (lasts g-stepped-reply.ended (κ-v-out, tt) (v-look, ((v-run .body .plan), ((v-run .body .track), ((v-run .body .a), (v-a, (x-v-out, tt)))))) zs) ⊛ raw (fact 𝓤 ((r ≡ steppedReply v-look (v-run .body .plan) (v-run .body .track) (v-run .body .a) v-a) × ((zs .1 .1 .1 .1 .1 .0) ≡ keptStep v-look (v-run .body .plan) (v-run .body .track) (v-run .body .a) v-a (v-out)))))) (id⊢ 𝓤 _) $ pick ! (λ zs. split ! $ move ! (1 ∷ []) $ heard ! ((r ≡ steppedReply v-look (v-run .body .plan) (v-run .body .track) (v-run .body .a) v-a) × ((zs .1 .1 .1 .1 .1 .0) ≡ keptStep v-look (v-run .body .plan) (v-run .body .track) (v-run .body .a) v-a (v-out))) (λ e. fsplit ! $ drop ! $ fsplit ! $ drop ! $ fsplit ! $ drop ! $ fsplit ! $ drop ! $ fsplit ! $ drop ! $ fsplit ! $ fsplit ! $ move ! (1 ∷ []) $ feqL ! (λ l-v-out. move ! (2 ∷ []) $ split ! $ split ! $ move ! (2 ∷ []) $
         -- the result lands in its local, with its machine value written out
-        move ! (2 ∷ []) $ split ! $ split ! $ move ! (2 ∷ []) $ peeks ! SteppedReply′.the-row (Is SteppedReply′.the-row) (shows 𝓤 H A SteppedReply′.the-row) r (w ∷ []) (λ is. land ! (from ! (stop !)) (init ! 23 refl (LL.lawful SteppedReply′.the-type SteppedReply″.the-laws 𝓤 H A W .typed r _ is .0)) $ rewrite ! 23 (λ (u : Val). ‵ (fat fullShare SteppedReply″.mir l-5 0 u)) (ap only (LL.tells SteppedReply′.the-type SteppedReply″.the-laws r (w ∷ []) is)) refl $
+        peeks ! SteppedReply′.the-row (Is SteppedReply′.the-row) (shows 𝓤 H A SteppedReply′.the-row) r (w ∷ []) (λ is. land ! (from ! (stop !)) (init ! 23 refl (LL.lawful SteppedReply′.the-type SteppedReply″.the-laws 𝓤 H A W .typed r _ is .0)) $ rewrite ! 23 (λ (u : Val). ‵ (fat fullShare SteppedReply″.mir l-5 0 u)) (ap only (LL.tells SteppedReply′.the-type SteppedReply″.the-laws r (w ∷ []) is)) refl $
         -- what changes is stored in its place, and the last field is the result
         assigns ! (of-opd ! (load ! (from ! (fld ! {τ = τ-Mark} refl (stop !))) (look-in ! 23 (sub ! {τs = (tcons τ-Mark (tcons τ-nine (tcons τ-Track (tcons τ-Trial (tcons τ-Reply tnil)))))} 0 refl (whole !))))) (from ! (hop ! (look ! 31 refl) (fld ! {τ = τ-Mark} refl (stop !)))) (store-in ! 5 (sub ! {τs = (tcons τ-Mark (tcons τ-Body tnil))} 0 refl (whole !)) (LL.lawful Mark′.the-type Mark″.the-laws 𝓤 H A W .typed (r .mark) _ (mark-is r _ is) .0)) $ assigns ! (of-opd ! (load ! (from ! (fld ! {τ = τ-nine} refl (stop !))) (look-in ! 23 (sub ! {τs = (tcons τ-Mark (tcons τ-nine (tcons τ-Track (tcons τ-Trial (tcons τ-Reply tnil)))))} 1 refl (whole !))))) (from ! (hop ! (look ! 31 refl) (fld ! {τ = τ-Body} refl (fld ! {τ = τ-nine} refl (stop !))))) (store-in ! 5 (sub ! {τs = (tcons τ-Plan (tcons τ-Places (tcons τ-nine (tcons τ-Slopes (tcons τ-Widest (tcons (tyInt w64) (tcons τ-Track (tcons τ-Trial tnil))))))))} 2 refl (sub ! {τs = (tcons τ-Mark (tcons τ-Body tnil))} 1 refl (whole !))) (Body″.the-laws .1 .1 .0 .lawful 𝓤 H A W .typed (tuples (r .a)) _ (a-is r _ is) .0)) $ assigns ! (of-opd ! (load ! (from ! (fld ! {τ = τ-Track} refl (stop !))) (look-in ! 23 (sub ! {τs = (tcons τ-Mark (tcons τ-nine (tcons τ-Track (tcons τ-Trial (tcons τ-Reply tnil)))))} 2 refl (whole !))))) (from ! (hop ! (look ! 31 refl) (fld ! {τ = τ-Body} refl (fld ! {τ = τ-Track} refl (stop !))))) (store-in ! 5 (sub ! {τs = (tcons τ-Plan (tcons τ-Places (tcons τ-nine (tcons τ-Slopes (tcons τ-Widest (tcons (tyInt w64) (tcons τ-Track (tcons τ-Trial tnil))))))))} 6 refl (sub ! {τs = (tcons τ-Mark (tcons τ-Body tnil))} 1 refl (whole !))) (LL.lawful Track′.the-type Track″.the-laws 𝓤 H A W .typed (r .track) _ (track-is r _ is) .0)) $ assigns ! (of-opd ! (load ! (from ! (fld ! {τ = τ-Trial} refl (stop !))) (look-in ! 23 (sub ! {τs = (tcons τ-Mark (tcons τ-nine (tcons τ-Track (tcons τ-Trial (tcons τ-Reply tnil)))))} 3 refl (whole !))))) (from ! (hop ! (look ! 31 refl) (fld ! {τ = τ-Body} refl (fld ! {τ = τ-Trial} refl (stop !))))) (store-in ! 5 (sub ! {τs = (tcons τ-Plan (tcons τ-Places (tcons τ-nine (tcons τ-Slopes (tcons τ-Widest (tcons (tyInt w64) (tcons τ-Track (tcons τ-Trial tnil))))))))} 7 refl (sub ! {τs = (tcons τ-Mark (tcons τ-Body tnil))} 1 refl (whole !))) (LL.lawful Trial′.the-type Trial″.the-laws 𝓤 H A W .typed (r .trial) _ (trial-is r _ is) .0)) $ assigns ! (of-opd ! (load ! (from ! (fld ! {τ = τ-Reply} refl (stop !))) (look-in ! 23 (sub ! {τs = (tcons τ-Mark (tcons τ-nine (tcons τ-Track (tcons τ-Trial (tcons τ-Reply tnil)))))} 4 refl (whole !))))) (from ! (stop !)) (init ! 33 refl (LL.lawful Reply′.the-type Reply″.the-laws 𝓤 H A W .typed (r .reply) _ (reply-is r _ is) .0)) $ move ! (5 ∷ []) $ use1 W (‵ (fat fullShare (rawTy τ-Run) b-v-run o-v-run (LL.val Run′.the-type Run″.the-laws (steppedRun v-run r)))) (W .laws .at-raw fullShare τ-Run b-v-run o-v-run (LL.val Run′.the-type Run″.the-laws (steppedRun v-run r))) $ owned ! Run′.the-row (Is Run′.the-row) (LL.makes Run′.the-type Run″.the-plain 𝓤 H A) (steppedRun v-run r) _ (new-is v-run _ v-run-is r _ is) $ move ! (1 ∷ 0 ∷ 7 ∷ 8 ∷ 9 ∷ []) $ closes ! tt Run′.the-row (steppedRun v-run r) ((LL.val Run′.the-type Run″.the-laws (steppedRun v-run r)) ∷ []) b-v-run o-v-run $
         -- the locals are freed
