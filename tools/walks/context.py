@@ -1,3 +1,4 @@
+# SPDX-License-Identifier: MIT OR Apache-2.0
 """The hypotheses of a walk, in order and each under a name, and the steps that were written. Only here are positions counted."""
 from rows import numbers
 

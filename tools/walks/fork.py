@@ -1,3 +1,4 @@
+# SPDX-License-Identifier: MIT OR Apache-2.0
 """The walk of a function that looks first, and then hands all on to one of its callees:
 
     { let look = L(.. run.p.q .., out.len()); if look.x { return F(run, .., out); } .. G(run, .., out) }

@@ -1,3 +1,4 @@
+# SPDX-License-Identifier: MIT OR Apache-2.0
 """The code of a fork, as the walk's own copy of it: each way has its locals for the struct and the buffer that it hands on."""
 from params import FLOATS
 from parts import Part

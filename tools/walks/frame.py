@@ -1,3 +1,4 @@
+# SPDX-License-Identifier: MIT OR Apache-2.0
 """What every walk has in common: its head with the types as their rows have them, its parameters, and its end with the theorem."""
 import re
 from imports import IMPORTS

@@ -1,3 +1,4 @@
+# SPDX-License-Identifier: MIT OR Apache-2.0
 """The lemmas that walks are made of; each file brings in those that it names."""
 TEXT = '''
 mathlib.Core.Path: _≡_, refl, ap, subst, sym, _∙_

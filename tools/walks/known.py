@@ -1,3 +1,4 @@
+# SPDX-License-Identifier: MIT OR Apache-2.0
 """What a thin walk knows: of the fields of what came back, and of the lent struct with them stored."""
 from nine import nine_facts
 from parts import Part, inner_facts

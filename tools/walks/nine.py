@@ -1,3 +1,4 @@
+# SPDX-License-Identifier: MIT OR Apache-2.0
 """Nine triples: the one array that a walk covers."""
 from rows import NINE, nth
 

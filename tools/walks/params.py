@@ -1,3 +1,4 @@
+# SPDX-License-Identifier: MIT OR Apache-2.0
 """A walk's parameters, and the functions that it calls."""
 import re
 from rows import nth

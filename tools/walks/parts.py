@@ -1,3 +1,4 @@
+# SPDX-License-Identifier: MIT OR Apache-2.0
 """Parts of a lent struct, and what callees are handed."""
 from rows import NINE, nth
 from sources import Refused, spelt

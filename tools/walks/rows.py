@@ -1,3 +1,4 @@
+# SPDX-License-Identifier: MIT OR Apache-2.0
 """How a proof speaks of a type: its row, what it denotes, its machine type and value, and its laws."""
 from sources import Refused
 

@@ -1,3 +1,4 @@
+# SPDX-License-Identifier: MIT OR Apache-2.0
 """What the sources say: the records and enums of each crate, and the functions with their contracts."""
 import re
 from pathlib import Path

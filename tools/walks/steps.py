@@ -1,3 +1,4 @@
+# SPDX-License-Identifier: MIT OR Apache-2.0
 """The steps that walks of every shape take: a lent struct is opened and closed, parts are read, a function is called and its result lands."""
 from parts import operands
 

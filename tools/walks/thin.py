@@ -1,3 +1,4 @@
+# SPDX-License-Identifier: MIT OR Apache-2.0
 """The walk of a thin function over one callee:
 
     { let done = G(ARGS); *run = done.S; done.T }                        the lent struct is stored whole

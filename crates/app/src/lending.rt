@@ -1,3 +1,4 @@
+// SPDX-License-Identifier: MIT OR Apache-2.0
 // The lent run by an answer: of the fast path only what changes is stored; by any other answer the run is copied out and put back whole.
 ghost use mathlib.Core.Path.{_≡_};
 ghost use Rattle.gauss_jackson.specs.Answers.{answered};

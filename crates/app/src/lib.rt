@@ -1,3 +1,4 @@
+// SPDX-License-Identifier: MIT OR Apache-2.0
 // What an app links: the whole run and the samples between, for C and for Rust. Thin over the proved functions, and proved themselves.
 // No function here depends on its caller's care beyond what a pointer needs; include/gauss_jackson.h says that, and the layouts.
 use run::Mark;

@@ -1,3 +1,4 @@
+// SPDX-License-Identifier: MIT OR Apache-2.0
 // What a call gives, in plain numbers.
 ghost use mathlib.Core.Path.{_≡_};
 ghost use Rattle.gauss_jackson.specs.Answers.{started, answered, openQuestion};

@@ -1,3 +1,4 @@
+// SPDX-License-Identifier: MIT OR Apache-2.0
 // A float and its bit pattern. A NaN has no pattern of its own here: every NaN pattern reads as the one NaN, and a NaN reads as none.
 ghost use mathlib.Core.Path.{_≡_};
 ghost use lib.Ieee.{ofBits, binary64};

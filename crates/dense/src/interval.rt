@@ -1,3 +1,4 @@
+// SPDX-License-Identifier: MIT OR Apache-2.0
 // Which interval a time falls into. The two interpolations have rules of their own (01, "Between samples").
 use crate::table;
 ghost use mathlib.Core.Path.{_≡_};

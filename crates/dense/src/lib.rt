@@ -1,3 +1,4 @@
+// SPDX-License-Identifier: MIT OR Apache-2.0
 // Between samples: position and velocity at one time, or at a row of times. Both functions take any numbers and any lengths; they
 // refuse by 01's numbers, and their contracts say what every number of `out` is when they return.
 use refusals::Refusal;

@@ -1,3 +1,4 @@
+// SPDX-License-Identifier: MIT OR Apache-2.0
 // A table of samples: ten numbers each. Total: past the last sample every number is NaN.
 use triple::Sample;
 use triple::Triple;

@@ -1,3 +1,4 @@
+// SPDX-License-Identifier: MIT OR Apache-2.0
 // What a call is told, before anything is written: refusal 9, 3 or 4, in this order, or none.
 use crate::Told;
 use crate::WIDTH;

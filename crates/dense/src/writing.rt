@@ -1,3 +1,4 @@
+// SPDX-License-Identifier: MIT OR Apache-2.0
 // What is written for each time, and where.
 use crate::WIDTH;
 use crate::interval;

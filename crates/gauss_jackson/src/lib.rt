@@ -1,3 +1,4 @@
+// SPDX-License-Identifier: MIT OR Apache-2.0
 // The integration turned inside out: `start` gives a run with its first question, and each accepted `answer` gives the next
 // question, or the finished state, or a refusal. The run is plain data, goes in by value and comes back by value.
 // Every function that a caller sees is total: document 01 names the answer to anything at all.

@@ -1,3 +1,4 @@
+// SPDX-License-Identifier: MIT OR Apache-2.0
 // 01: "a run lent by the caller and moved on where it stands". Each function calls the one by value and stores the run back.
 use gauss_jackson::Outcome;
 use run::Run;

@@ -1,3 +1,4 @@
+// SPDX-License-Identifier: MIT OR Apache-2.0
 // The quintic between two samples: the one curve that meets time, position, velocity and acceleration of both.
 // Evaluated in the order of the module's quintic_hermite, operation by operation; total, at equal times and NaN too.
 use triple::Sample;

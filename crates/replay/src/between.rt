@@ -1,3 +1,4 @@
+// SPDX-License-Identifier: MIT OR Apache-2.0
 // Lines that give samples outright, and lines that ask between the samples of the last case or table.
 use crate::Place;
 use crate::text;

@@ -1,3 +1,4 @@
+// SPDX-License-Identifier: MIT OR Apache-2.0
 // A case: the words after `case`.
 use crate::force;
 use crate::force::Force;

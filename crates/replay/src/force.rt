@@ -1,3 +1,4 @@
+// SPDX-License-Identifier: MIT OR Apache-2.0
 // The four forces of the case format, by component, each operation rounded once.
 use crate::case;
 use crate::case::Cursor;

@@ -1,3 +1,4 @@
+// SPDX-License-Identifier: MIT OR Apache-2.0
 // Lines out of pieces of the input, and what each asks for.
 use crate::Place;
 use crate::between;

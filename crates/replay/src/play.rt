@@ -1,3 +1,4 @@
+// SPDX-License-Identifier: MIT OR Apache-2.0
 // A case, played: every question answered by its force, until the run is done or refused.
 use crate::case::Case;
 use crate::force;

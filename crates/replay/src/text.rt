@@ -1,3 +1,4 @@
+// SPDX-License-Identifier: MIT OR Apache-2.0
 // Lines of the transcript, put together in a small buffer and written whole.
 use crate::words::Word;
 use bits::Pattern;

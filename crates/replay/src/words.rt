@@ -1,3 +1,4 @@
+// SPDX-License-Identifier: MIT OR Apache-2.0
 // Words apart by blanks, and the numbers in them.
 ghost use Prim.Native.Nat.{_<_, _^_};
 

@@ -1,3 +1,4 @@
+// SPDX-License-Identifier: MIT OR Apache-2.0
 // The plan of a run, and the tests that its steps turn on.
 ghost use mathlib.Core.Path.{_≡_};
 ghost use Rattle.run.specs.Plan.{directionOf, planOf, isTooNear};

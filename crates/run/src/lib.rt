@@ -1,3 +1,4 @@
+// SPDX-License-Identifier: MIT OR Apache-2.0
 // The run: its records, and the mathematics of each waiting point by parts. Nothing here decides what an answer leads to; that is
 // `gauss_jackson`, which alone is meant for callers.
 use startup::Places;

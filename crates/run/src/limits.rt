@@ -1,3 +1,4 @@
+// SPDX-License-Identifier: MIT OR Apache-2.0
 // The limits that document 01 sets to the settings, and what they say of samples.
 ghost use mathlib.Core.Path.{_≡_};
 ghost use Rattle.run.specs.Limits.{areWithinLimits, wantsSamples};

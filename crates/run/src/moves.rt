@@ -1,3 +1,4 @@
+// SPDX-License-Identifier: MIT OR Apache-2.0
 // What an answer makes of the mathematics: from a body to the next, each by value.
 ghost use mathlib.Core.Path.{_≡_};
 ghost use Rattle.run.specs.Moves.{freshBody, withSlope, kept, endOf, surveyed, passBegun, renewed, launched, predicted, tried, endOfTail};

@@ -1,3 +1,4 @@
+// SPDX-License-Identifier: MIT OR Apache-2.0
 // What each waiting point asks.
 ghost use mathlib.Core.Path.{_≡_};
 ghost use Rattle.run.specs.Questions.{stageQuestion, gridPoint, epochPoint, endPoint, lastPoint, noPoint, questionAt};

@@ -1,3 +1,4 @@
+// SPDX-License-Identifier: MIT OR Apache-2.0
 // The waiting point: plain numbers in the run, one of these cases everywhere else.
 ghost use mathlib.Core.Path.{_≡_};
 ghost use Rattle.run.specs.Waiting.{stageNumber, isLast, stageAfter, atNumber, indexNumber, stageAt, markAt, stageFrom, waitsAt};

@@ -1,3 +1,4 @@
+// SPDX-License-Identifier: MIT OR Apache-2.0
 // The startup's nine points: their times and places, what a pass makes of them, and when the passes stop.
 // By parts of the run; nothing here asks a question.
 ghost use mathlib.Core.Path.{_≡_};

@@ -1,3 +1,4 @@
+// SPDX-License-Identifier: MIT OR Apache-2.0
 // Weighted sums of accelerations, the running sums s and S, and the positions and velocities that come of them,
 // in 01's order of rounding. A row is named by a literal wherever it is known, so that its coefficients fold in.
 use triple::State;

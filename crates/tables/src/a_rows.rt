@@ -1,3 +1,4 @@
+// SPDX-License-Identifier: MIT OR Apache-2.0
 // Table A, what the position takes of each acceleration (Gauss-Jackson): ten rows of nine, in the decimals of the module.
 
 pub const A0: [f64; 9] = [

@@ -1,3 +1,4 @@
+// SPDX-License-Identifier: MIT OR Apache-2.0
 // Table B, what the velocity takes of each acceleration (summed Adams): ten rows of nine, in the decimals of the module.
 
 pub const B0: [f64; 9] = [

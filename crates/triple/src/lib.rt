@@ -1,3 +1,4 @@
+// SPDX-License-Identifier: MIT OR Apache-2.0
 // Triples of f64, and the three records that are made of them: all by value, laid out as C has them; every function is total.
 // Operations go component by component, each product and each sum rounded once (01, "What is carried over").
 ghost use mathlib.Core.Path.{_≡_};

@@ -1,3 +1,4 @@
+// SPDX-License-Identifier: MIT OR Apache-2.0
 // Nine triples, as the points of a startup and the window of accelerations are kept. Total for every index.
 use crate::Triple;
 ghost use mathlib.Core.Path.{_≡_};
