@@ -32,7 +32,8 @@ returns-5 c =
 
 step-counts-requires : tie.Need-step-counts-requires
 step-counts-requires c κs =
-    let z = to-small _ (sym (c .before .before .before .before .before .before .before .are-within-limits .ensures) ∙ not-false _ (c .before .before .before .before .before .before .if3 .left)) in
+    let past = c .before .before .before .before .before .before in
+    let z = to-small _ (sym (past .before .are-within-limits .ensures) ∙ not-false _ (c .before .before .before .before .before .before .if3 .left)) in
     (z, omega (arith, z .passes, c .before .if5 .left))
 
 returns-6 : tie.Need-returns-6
