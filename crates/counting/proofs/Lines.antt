@@ -144,15 +144,15 @@ module _ (c : Claims) (E N : ℕ) (l : Limits c E N) where
       go false y z f = (n, adds-none (c .sample) n (x .out), (refl, z, refl, f i e n q k h))
 
   -- ---- whoever answers every question comes to the end
-  pub ending : (i e n : ℕ) (cs : List Call) (rs : List Result) → Going c E i e n cs rs → e < E → E ≤ e + answersIn i cs rs → Finishes rs
+  pub finishing : (i e n : ℕ) (cs : List Call) (rs : List Result) → Going c E i e n cs rs → e < E → E ≤ e + answersIn i cs rs → Finishes rs
   unfolding Going Tells answersIn Finishes
-  ending i e n [] [] g l u = absurd (omega arith)
-  ending i e n [] (r ∷ rs) g l u = absurd g
-  ending i e n (k ∷ ks) [] g l u = absurd g
-  ending i e n (k ∷ ks) (r ∷ rs) g l u =
+  finishing i e n [] [] g l u = absurd (omega arith)
+  finishing i e n [] (r ∷ rs) g l u = absurd g
+  finishing i e n (k ∷ ks) [] g l u = absurd g
+  finishing i e n (k ∷ ks) (r ∷ rs) g l u =
       go (r .said) (g .2) u
-      (λ (j : ℕ) (h : Going c E j (e + 1) (g .0) ks rs) (m : e + 1 < E) (o : E ≤ e + 1 + answersIn j ks rs). ending j (e + 1) (g .0) ks rs h m o)
-      (λ (h : Going c E i e n ks rs) (o : E ≤ e + answersIn i ks rs). ending i e n ks rs h l o)
+      (λ (j : ℕ) (h : Going c E j (e + 1) (g .0) ks rs) (m : e + 1 < E) (o : E ≤ e + 1 + answersIn j ks rs). finishing j (e + 1) (g .0) ks rs h m o)
+      (λ (h : Going c E i e n ks rs) (o : E ≤ e + answersIn i ks rs). finishing i e n ks rs h l o)
     where
       go : (s : Said) → Tells c E i (k .number) e n (g .0) s (λ (j : ℕ). Going c E j (e + 1) (g .0) ks rs) (Going c E i e n ks rs) (Over ks rs)
           → E ≤ e + (cond (eqb i (k .number)) 1 0 + answersIn (openAfter i s) ks rs)

@@ -23,7 +23,7 @@ use Rattle.run.specs.Samples.{gridSample, startSamples, stepSample, lastSample}
 use Rattle.rules.specs.Rules.{Course, stores, ends, exceeds, sampled, tail, correct, step, march, fly}
 use Rattle.rules.specs.Asked.{clock}
 use Rattle.counting.specs.Paths.{Each, Always}
-use Rattle.counting.specs.Clockwork.{Fate, arrives, tails, runs-out, fateFrom, fateOf, stepsOf, plainSteps, tailAnswers, NeverStops, Counted, gridTime, sampleTime, Ended, RunsOut, clockwork, ByTheClock}
+use Rattle.counting.specs.Clockwork.{Fate, arrives, tails, runs-out, fateFrom, fateOf, stepsOf, plainSteps, tailAnswers, NeverStops, Counted, gridTime, sampleTime, EndsBy, RunsOut, clockwork, ByTheClock}
 use Rattle.counting.proofs.Signs.{corrector-goes-on}
 use Rattle.counting.proofs.Startup.{Started, cond-always, rk4-always, startup-always}
 use Rattle.counting.proofs.Heads.{Running, kept, kept-all, kept-none, stored, Ahead, nearer, ahead, on-grid, clock-grid, counted}
@@ -33,7 +33,7 @@ module _ (p : Plan) (f : Fate) where
   arrived : (e j startups : ℕ) (t : Float) (y : State) → f ≡ arrives t (4 + j) → Running p e j startups → Always (clockwork p f) e (kept p (4 + j + 1)) (ends t y (4 + j) startups)
   unfolding Always clockwork plainSteps tailAnswers stepsOf
   arrived e j startups t y h r =
-      subst (λ (g : Fate). Ended p g t (4 + j) × Counted p g e (kept p (4 + j + 1)) startups) (sym h)
+      subst (λ (g : Fate). EndsBy p g t (4 + j) × Counted p g e (kept p (4 + j + 1)) startups) (sym h)
       ((refl, refl), counted p (arrives t (4 + j)) e e (kept p (4 + j + 1)) j startups (omega arith) (omega arith) refl r)
 
   exhausted : (e j startups : ℕ) → f ≡ runs-out (4 + j) → Running p e j startups → Always (clockwork p f) e (kept p (4 + j + 1)) exceeds
@@ -47,7 +47,7 @@ module _ (p : Plan) (f : Fate) where
       → Always (clockwork p f) e' n (ends (p .tf) y (4 + j + 1) startups)
   unfolding Always clockwork plainSteps tailAnswers stepsOf kept
   landed e e' n j startups y h g k r =
-      subst (λ (g : Fate). Ended p g (p .tf) (4 + j + 1) × Counted p g e' n startups) (sym h)
+      subst (λ (g : Fate). EndsBy p g (p .tf) (4 + j + 1) × Counted p g e' n startups) (sym h)
       ((refl, refl), counted p (tails (4 + j)) e e' n j startups (omega arith) g k r)
 
   tail-sample : (j : ℕ) → f ≡ tails (4 + j) → (4 + j + 1 ≤ stepsOf f) × (p .tf ≡ sampleTime p f (4 + j + 1))

@@ -17,7 +17,7 @@ use Rattle.counting.specs.Paths.{Always}
 use Rattle.counting.specs.Counting.{spanOf, mostFor, mostBefore, Bounds, OnTime, onTime}
 use Rattle.counting.specs.Runs.{Going, answersIn, Roomy, roomFor, FinishesOnTime}
 use Rattle.counting.proofs.OnTime.{ends-on-time}
-use Rattle.counting.proofs.Lines.{Limits, going, ending}
+use Rattle.counting.proofs.Lines.{Limits, going, finishing}
 use Rattle.counting.proofs.Starts.{accepted-start}
 
 module _ {s : Settings} {t0 tf : Float} {z0 zf hz : ℤ} (b : Bounds s t0 tf z0 zf hz) (r0 v0 : Triple) where
@@ -54,5 +54,5 @@ module _ {s : Settings} {t0 tf : Float} {z0 zf hz : ℤ} (b : Bounds s t0 tf z0 
         first = one;
         then = all;
         ends = λ (u : mostBefore s (spanOf z0 zf) (natAbs hz) ≤ answersIn 0 cs (played (started s t0 tf r0 v0 .run) cs)).
-            ending (onTime s t0 tf z0 zf (natAbs hz)) (mostBefore s (spanOf z0 zf) (natAbs hz)) (roomFor s (spanOf z0 zf) (natAbs hz)) limits 0 0 0 cs _ all some (omega arith);
+            finishing (onTime s t0 tf z0 zf (natAbs hz)) (mostBefore s (spanOf z0 zf) (natAbs hz)) (roomFor s (spanOf z0 zf) (natAbs hz)) limits 0 0 0 cs _ all some (omega arith);
       }

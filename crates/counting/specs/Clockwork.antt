@@ -85,10 +85,10 @@ sampleTime p (tails m) n = cond (eqb n (m + 1)) (p .tf) (gridTime p n)
 sampleTime p (runs-out m) n = gridTime p n
 
 -- the finished state of this fate
-abbrev pub Ended : Plan → Fate → Float → ℕ → Type 0
-Ended p (arrives u m) t steps = (t ≡ u) × (steps ≡ m)
-Ended p (tails m) t steps = (t ≡ p .tf) × (steps ≡ m + 1)
-Ended p (runs-out m) t steps = ⊥
+abbrev pub EndsBy : Plan → Fate → Float → ℕ → Type 0
+EndsBy p (arrives u m) t steps = (t ≡ u) × (steps ≡ m)
+EndsBy p (tails m) t steps = (t ≡ p .tf) × (steps ≡ m + 1)
+EndsBy p (runs-out m) t steps = ⊥
 
 abbrev pub RunsOut : Fate → Type 0
 RunsOut (arrives u m) = ⊥
@@ -99,7 +99,7 @@ unfoldable pub clockwork : Plan → Fate → Claims
 clockwork p f =
     record {
       sample = λ (n : ℕ) (t : Float). (wantsSamples (p .settings) ≡ true) × (n ≤ stepsOf f) × (t ≡ sampleTime p f n);
-      finish = λ (e n : ℕ) (t : Float) (steps startups : ℕ). Ended p f t steps × Counted p f e n startups;
+      finish = λ (e n : ℕ) (t : Float) (steps startups : ℕ). EndsBy p f t steps × Counted p f e n startups;
       excess = λ (e n : ℕ). RunsOut f × ((startups : ℕ) × Counted p f e n startups);
     }
 

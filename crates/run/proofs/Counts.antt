@@ -56,9 +56,6 @@ pub record Stepping (k e S M n C : ℕ) : Type 0 where
 abbrev pub IdleBody : Body → Type 0
 IdleBody b = Idle (b .«startup_iters») (b .track .steps)
 
-abbrev pub StartedBody : Body → Type 0
-StartedBody b = Started (b .«startup_iters») (b .plan .settings .«max_startup_iters»)
-
 abbrev pub SteppingBody : ℕ → ℕ → Body → Type 0
 SteppingBody k e b = Stepping k e (b .«startup_iters») (b .plan .settings .«max_startup_iters») (b .track .steps) (b .plan .settings .«max_corrector_iters»)
 

@@ -1,4 +1,4 @@
--- `turns::ask` is `asking`.
+-- `outcomes::ask` is `asking`.
 use borrow.Author.Needs.{needs}
 use Rattle.gauss_jackson.specs.Answers.{asking}
 use Rattle.gauss_jackson.proofs.outcomes.ask.Statement.{statement}

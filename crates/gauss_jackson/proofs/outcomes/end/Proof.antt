@@ -1,4 +1,4 @@
--- `turns::end` is `ending`.
+-- `outcomes::end` is `ending`.
 use borrow.Author.Needs.{needs}
 use Rattle.gauss_jackson.specs.Answers.{ending}
 use Rattle.gauss_jackson.proofs.outcomes.end.Statement.{statement}

@@ -1,4 +1,4 @@
--- `turns::ended_run` is `endedRun`.
+-- `outcomes::ended_run` is `endedRun`.
 use borrow.Author.Needs.{needs}
 use Rattle.gauss_jackson.specs.Answers.{endedRun}
 use Rattle.gauss_jackson.proofs.outcomes.ended_run.Statement.{statement}

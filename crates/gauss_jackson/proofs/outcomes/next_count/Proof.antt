@@ -1,4 +1,4 @@
--- `turns::next_count` is `nextCount`.
+-- `outcomes::next_count` is `nextCount`.
 use borrow.Author.Needs.{needs}
 use Rattle.gauss_jackson.specs.Answers.{nextCount}
 use Rattle.gauss_jackson.proofs.outcomes.next_count.Statement.{statement}

@@ -1,4 +1,4 @@
--- `turns::no_plan` is `noPlan`.
+-- `outcomes::no_plan` is `noPlan`.
 use mathlib.Core.Path.{refl}
 use lib.Ieee.{ofBits}
 use Rattle.gauss_jackson.specs.Answers.{noPlan}

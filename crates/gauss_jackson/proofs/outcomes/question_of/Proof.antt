@@ -1,4 +1,4 @@
--- `turns::question_of` is `questionOf`.
+-- `outcomes::question_of` is `questionOf`.
 use borrow.Author.Needs.{needs}
 use Rattle.gauss_jackson.specs.Answers.{questionOf}
 use Rattle.gauss_jackson.proofs.outcomes.question_of.Statement.{statement}

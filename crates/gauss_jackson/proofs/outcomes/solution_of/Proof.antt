@@ -1,4 +1,4 @@
--- `turns::solution_of` is `solutionOf`.
+-- `outcomes::solution_of` is `solutionOf`.
 use mathlib.Core.Path.{refl}
 use Rattle.gauss_jackson.specs.Answers.{solutionOf}
 use Rattle.gauss_jackson.proofs.outcomes.solution_of.Statement.{statement}
