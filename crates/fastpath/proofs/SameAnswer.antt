@@ -2,7 +2,7 @@
 -- gives, the run, the outcome and the buffer. For any run, any number, any acceleration and any buffer.
 use mathlib.Core.Path.{_≡_, refl, sym, ap, subst, _∙_}
 use Prim.Native.Nat.{ℕ, _+_}
-use mathlib.Core.Bool.{Bool, true, false, _&&_, cond}
+use mathlib.Core.Bool.{Bool, true, false, _&&_, cond, false≢true}
 use mathlib.Core.List.{List}
 use lib.Dec.{eqb}
 use lib.ListN.{length}
@@ -24,7 +24,7 @@ use Rattle.gauss_jackson.specs.Answers.{nextCount, asking, questionOf, stepTake
 use Rattle.fastpath.specs.declared.Look.{Look}
 use Rattle.fastpath.specs.Looking.{reached, isMade, isFollowed, lookedAway, lookedAgain, lookedOn, lookedAt}
 use Rattle.fastpath.specs.Moving.{askedAt, askedAgain, trackBy, madeStep, keptStep, triedGiven, steppedGiven}
-use Rattle.fastpath.proofs.Taken.{apart, taken-again, taken-on, ended-on}
+use Rattle.fastpath.proofs.Taken.{taken-again, taken-on, ended-on}
 
 module _ (run : Run) (number : ℕ) (a : Triple) (out : List Float) where
   abbrev p : Plan
@@ -67,15 +67,15 @@ module _ (run : Run) (number : ℕ) (a : Triple) (out : List Float) where
 
   again-by : (o d : Bool) → isOpen && isAsked ≡ o → made ≡ d → SameAgain (look o d)
   unfolding lookedAway lookedAgain lookedOn askedAgain askedAt asking questionOf questionAt endPoint stepPoint tried
-  again-by true true u v e = apart e
+  again-by true true u v e = absurd (false≢true e)
   again-by true false u v e = to-step u ∙ taken-again _ _ _ _ _ v
-  again-by false d u v e = apart e
+  again-by false d u v e = absurd (false≢true e)
 
   on-by : (o d : Bool) → isOpen && isAsked ≡ o → made ≡ d → SameOn (look o d)
   unfolding lookedAway lookedAgain lookedOn madeStep keptStep trackBy askedAt asking questionOf questionAt endPoint stepPoint predicted committed trackOn
   on-by true true u v e = to-step u ∙ taken-on _ _ _ _ _ v ∙ ended-on c (committed (run .body) end a) out e
-  on-by true false u v e = apart e
-  on-by false d u v e = apart e
+  on-by true false u v e = absurd (false≢true e)
+  on-by false d u v e = absurd (false≢true e)
 
   module _ (l : Look) (is : l ≡ lookedAt (run .mark) p k (run .body .trial) (run .body .«startup_iters») number a (length out)) where
     pub same-again : SameAgain l

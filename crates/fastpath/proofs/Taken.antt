@@ -1,8 +1,7 @@
 -- What the plain way makes of an answer at a step's end, by what was judged.
 use mathlib.Core.Path.{_≡_, refl, sym}
 use Prim.Native.Nat.{ℕ, _+_, _*_}
-use native.Mathlib.Omega.{arith}
-use mathlib.Core.Bool.{Bool, true, false, cond}
+use mathlib.Core.Bool.{Bool, true, false, cond, false≢true}
 use mathlib.Core.List.{List}
 use lib.Dec.{ltb, leb}
 use lib.ListN.{length}
@@ -24,9 +23,6 @@ use Rattle.gauss_jackson.specs.declared.Answered.{Answered}
 use Rattle.gauss_jackson.specs.Answers.{Given, quiet, asking, sampling, onward, stepEnded, stepTaken}
 use Rattle.fastpath.specs.Looking.{reached, isMade, isFollowed}
 
-pub apart : {A : Type 0} → false ≡ true → A
-apart e = let z : _≡_ {A = ℕ} 0 1 = cc in absurd (omega arith)
-
 module _ (n : ℕ) (c : Count) (b : Body) (a : Triple) (out : List Float) where
   abbrev after : State
   after = correctedState (b .plan .h) (b .track .sums) (b .trial .fixed) a
@@ -42,7 +38,7 @@ module _ (n : ℕ) (c : Count) (b : Body) (a : Triple) (out : List Float) where
     where
       go : (q : Bool) → q ≡ false → taken true q ≡ quiet (asking (Step (n + 1)) c (tried b after)) out
       go q f = rw f
-  open-by false e = apart (sym e)
+  open-by false e = absurd (false≢true (sym e))
 
   made-by : (p : Bool) → cond p rest true ≡ true → taken p rest ≡ stepEnded c (committed b (cond p after (b .trial .state)) a) out
   made-by true e = go rest e
