@@ -11,7 +11,8 @@ ghost use mathlib.Core.Path.{_≡_};
 ghost use mathlib.Core.List.{[], _∷_};
 ghost use Rattle.run.specs.Plan.{defaultSettings};
 ghost use Rattle.gauss_jackson.specs.Answers.{started, answered, openQuestion};
-ghost use Rattle.dense.specs.Interpolation.{judged, numberTold, interpolated, batched};
+ghost use Rattle.refusals.specs.Numbers.{numberTold};
+ghost use Rattle.dense.specs.Interpolation.{judged, interpolated, batched};
 ghost use Rattle.app.specs.Reply.{abiNumber, replyOf};
 
 mod lending;
@@ -130,7 +131,7 @@ pub extern "C" fn gj_interpolate(t: f64, samples: &[f64], out: &mut [f64]) -> u3
     ensures { λ _. ⌜ now (out .exit) ≡ interpolated t (now (samples .entry)) (now (out .entry)) ⌝ }
 {
     let told = dense::interpolate(t, samples, out);
-    dense::number_told(told) as u32
+    refusals::number_told(told) as u32
 }
 
 // The same at each of the times, in one walk through the samples.
@@ -140,5 +141,5 @@ pub extern "C" fn gj_interpolate_batch(times: &[f64], samples: &[f64], out: &mut
     ensures { λ _. ⌜ now (out .exit) ≡ batched (now (times .entry)) (now (samples .entry)) (now (out .entry)) ⌝ }
 {
     let told = dense::interpolate_batch(times, samples, out);
-    dense::number_told(told) as u32
+    refusals::number_told(told) as u32
 }

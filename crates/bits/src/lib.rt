@@ -1,7 +1,7 @@
 // SPDX-License-Identifier: MIT OR Apache-2.0
 // A float and its bit pattern. A NaN has no pattern of its own here: every NaN pattern reads as the one NaN, and a NaN reads as none.
 ghost use mathlib.Core.Path.{_≡_};
-ghost use lib.Ieee.{ofBits, binary64};
+ghost use lib.Ieee.{ofBits, toBits, binary64};
 ghost use Rattle.bits.specs.Patterns.{patternOf};
 
 pub enum Pattern {
@@ -27,4 +27,14 @@ pub fn pattern_of(x: f64) -> Pattern
         return Pattern::Nan;
     }
     Pattern::Bits(f64::to_bits(x))
+}
+
+// The pattern of a float as it is stored: for a NaN the quiet one without sign and payload.
+pub fn bits_of(x: f64) -> u64
+    ensures { λ n. ⌜ n ≡ toBits binary64 x ⌝ }
+{
+    if x != x {
+        return 0x7ff8_0000_0000_0000;
+    }
+    f64::to_bits(x)
 }

@@ -9,11 +9,10 @@ use lib.ListN.{length, set}
 use lib.Ieee.{Float, lt}
 use Rattle.triple.specs.Sampled.{sampleWidth}
 use Rattle.refusals.specs.declared.Refusal.the-variants.{NoDenseOutput, InterpOutOfBounds, Shape}
-use Rattle.refusals.specs.Numbers.{numberOf}
 use Rattle.quintic.specs.declared.Between.{Between}
 use Rattle.quintic.specs.Quintic.{quinticHermite}
-use Rattle.dense.specs.declared.Told.{Told}
-use Rattle.dense.specs.declared.Told.the-variants.{Written, Refused}
+use Rattle.refusals.specs.declared.Told.{Told}
+use Rattle.refusals.specs.declared.Told.the-variants.{Written, Refused}
 use Rattle.dense.specs.declared.interval.Ends.{Ends}
 use Rattle.dense.specs.Table.{countOf, sampleOf}
 use Rattle.dense.specs.Intervals.{endsOf, intervalOf, walkedTo}
@@ -21,11 +20,6 @@ use Rattle.dense.specs.Intervals.{endsOf, intervalOf, walkedTo}
 -- how many numbers a time takes
 abbrev pub width : ℕ
 width = 6
-
--- 01's number of an answer, and 0 where all is written
-abbrev pub numberTold : Told → ℕ
-numberTold Written = 0
-numberTold (Refused e) = numberOf e
 
 -- ---- what is told
 -- 9

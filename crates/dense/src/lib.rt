@@ -1,10 +1,10 @@
 // SPDX-License-Identifier: MIT OR Apache-2.0
 // Between samples: position and velocity at one time, or at a row of times. Both functions take any numbers and any lengths; they
 // refuse by 01's numbers, and their contracts say what every number of `out` is when they return.
-use refusals::Refusal;
+use refusals::Told;
 ghost use mathlib.Core.Path.{_≡_};
 ghost use mathlib.Core.List.{[], _∷_};
-ghost use Rattle.dense.specs.Interpolation.{judged, numberTold, interpolated, batched};
+ghost use Rattle.dense.specs.Interpolation.{judged, interpolated, batched};
 
 mod interval;
 mod table;
@@ -13,21 +13,6 @@ mod writing;
 
 // How many numbers of `out` a time takes: position, then velocity.
 pub const WIDTH: usize = 6;
-
-pub enum Told {
-    Written,
-    Refused(Refusal),
-}
-
-// The number in 01's table, and 0 where all was written.
-pub fn number_told(told: Told) -> u8
-    ensures { λ n. ⌜ n ≡ numberTold told ⌝ }
-{
-    match told {
-        Told::Written => 0,
-        Told::Refused(e) => refusals::number_of(e),
-    }
-}
 
 // Position and velocity at t, as the first numbers of `out`.
 pub fn interpolate(t: f64, samples: &[f64], out: &mut [f64]) -> Told

@@ -1,11 +1,11 @@
 // SPDX-License-Identifier: MIT OR Apache-2.0
 // What a call is told, before anything is written: refusal 9, 3 or 4, in this order, or none.
-use crate::Told;
 use crate::WIDTH;
 use crate::interval;
 use crate::interval::Ends;
 use crate::table;
 use refusals::Refusal;
+use refusals::Told;
 ghost use mathlib.Core.Path.{_≡_};
 ghost use Rattle.dense.specs.Intervals.{endsOf};
 ghost use Rattle.dense.specs.Interpolation.{isMisshapen, isOutside, anyOutside, judged};

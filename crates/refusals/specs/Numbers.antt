@@ -1,7 +1,9 @@
--- 01, "Numbered answers": the number of each refusal.
+-- 01, "Numbered answers", and 02: the number of each refusal.
 use Prim.Native.Nat.{ℕ}
 use Rattle.refusals.specs.declared.Refusal.{Refusal}
-use Rattle.refusals.specs.declared.Refusal.the-variants.{StepNotFinite, MaxStepsExceeded, NoDenseOutput, InterpOutOfBounds, Setting, SampleRoom, NoQuestion, NotThatQuestion, Shape}
+use Rattle.refusals.specs.declared.Refusal.the-variants.{StepNotFinite, MaxStepsExceeded, NoDenseOutput, InterpOutOfBounds, Setting, SampleRoom, NoQuestion, NotThatQuestion, Shape, StoredShape, StoredContent}
+use Rattle.refusals.specs.declared.Told.{Told}
+use Rattle.refusals.specs.declared.Told.the-variants.{Written, Refused}
 
 abbrev pub numberOf : Refusal → ℕ
 numberOf StepNotFinite = 1
@@ -13,3 +15,12 @@ numberOf SampleRoom = 6
 numberOf NoQuestion = 7
 numberOf NotThatQuestion = 8
 numberOf Shape = 9
+-- 02, W-201: "10 for a wrong length, block number or check"
+numberOf StoredShape = 10
+-- and "11 for another form number, an unknown waiting point, a flag above 1, unused content that is not zero, or a run that 01's answer 7 calls made up"
+numberOf StoredContent = 11
+
+-- a refusal's number, and 0 where all is written
+abbrev pub numberTold : Told → ℕ
+numberTold Written = 0
+numberTold (Refused e) = numberOf e

@@ -4,7 +4,7 @@ use crate::Place;
 use crate::text;
 use crate::words;
 use crate::words::Number;
-use dense::Told;
+use refusals::Told;
 
 // More floats than a line has room for, and the numbers told of so many times.
 const MOST: usize = 2048;

@@ -11,8 +11,8 @@ use lib.Ieee.{Float, nan}
 use borrow.Author.Tests.{ltb-false}
 use Rattle.quintic.specs.declared.Between.{Between}
 use Rattle.refusals.specs.declared.Refusal.the-variants.{NoDenseOutput, InterpOutOfBounds, Shape}
-use Rattle.dense.specs.declared.Told.{Told}
-use Rattle.dense.specs.declared.Told.the-variants.{Written, Refused}
+use Rattle.refusals.specs.declared.Told.{Told}
+use Rattle.refusals.specs.declared.Told.the-variants.{Written, Refused}
 use Rattle.dense.specs.Table.{countOf}
 use Rattle.dense.specs.Intervals.{endsOf, intervalOf, walkedTo}
 use Rattle.dense.specs.Interpolation.{width, isMisshapen, anyOutside, judged, valueAt, written, writtenAll, unless, interpolated, batched}

@@ -5,7 +5,7 @@ use mathlib.Core.Bool.{true, false}
 use mathlib.Core.List.{List}
 use lib.ListN.{length, getD}
 use lib.Ieee.{Float, nan}
-use Rattle.dense.specs.declared.Told.the-variants.{Written}
+use Rattle.refusals.specs.declared.Told.the-variants.{Written}
 use Rattle.dense.specs.Table.{countOf, nans, timeOf}
 use Rattle.dense.specs.Intervals.{isForward, endsOf, isShort, intervalOf, walkedTo}
 use Rattle.dense.specs.Interpolation.{width, judged, isOutside, valueAt, interpolated, batched}

@@ -1,7 +1,7 @@
 -- `gj_interpolate_batch` tells the number of what `interpolate_batch` told.
 use mathlib.Core.Path.{ap, _∙_}
 use borrow.Author.Needs.{needs}
-use Rattle.dense.specs.Interpolation.{numberTold}
+use Rattle.refusals.specs.Numbers.{numberTold}
 use Rattle.app.proofs.gj_interpolate_batch.Statement.{statement}
 use Rattle.app.proofs.gj_interpolate_batch.Tie as tie
 

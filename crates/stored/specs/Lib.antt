@@ -1,0 +1,5 @@
+pub mod Layout
+pub mod Content
+pub mod Taken
+pub mod Stored
+pub mod Trips

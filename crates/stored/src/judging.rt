@@ -1,0 +1,292 @@
+// A run from 504 words of content, and whether they are one.
+ghost use mathlib.Core.Path.{_≡_};
+ghost use mathlib.Core.Bool.{true, _&&_};
+ghost use Prim.Native.Nat.{_<_};
+ghost use lib.Dec.{eqb};
+ghost use Rattle.blocks.specs.Rows.{row};
+ghost use Rattle.stored.specs.Taken.{floatAt, tripleAt, triplesIn, countsAt, bodyFrom, isKnown, runOf, wordUsed, stillZero, unusedIsZero, noRun, notTaken, judgedKnown, judged};
+use crate::layout;
+use crate::layout::Uses;
+use run::Body;
+use run::Count;
+use run::Mark;
+use run::Plan;
+use run::Run;
+use run::Settings;
+use run::Slopes;
+use run::Track;
+use run::Trial;
+use run::sound;
+use run::waiting;
+use startup::Places;
+use startup::Widest;
+use sums::Fixed;
+use sums::Sums;
+use triple::State;
+use triple::Triple;
+
+pub struct Taken {
+    pub taken: bool,
+    pub run: Run,
+}
+
+// Float k.
+fn float_at(content: &[u32; 504], k: usize) -> f64
+    requires { ⌜ k < 123 ⌝ }
+    ensures { λ x. ⌜ x ≡ floatAt (now (content .entry)) k ⌝ }
+{
+    let at = 6 + 2 * k;
+    bits::float_of(wide(content[at]) + 0x1_0000_0000 * wide(content[at + 1]))
+}
+
+fn wide(n: u32) -> u64
+    ensures { λ r. ⌜ (r ≡ n) × (r < 0x1_0000_0000) ⌝ }
+{
+    n as u64
+}
+
+fn triple_at(content: &[u32; 504], q: usize) -> Triple
+    requires { ⌜ q < 41 ⌝ }
+    ensures { λ t. ⌜ t ≡ tripleAt (now (content .entry)) q ⌝ }
+{
+    let x = float_at(content, 3 * q);
+    let y = float_at(content, 3 * q + 1);
+    let z = float_at(content, 3 * q + 2);
+    Triple { x, y, z }
+}
+
+fn triples_in(content: &[u32; 504]) -> [Triple; 41]
+    ensures { λ l. ⌜ l ≡ triplesIn (now (content .entry)) ⌝ }
+{
+    let zero = Triple::zero();
+    let mut floats = [zero; 41];
+    let mut q = 0usize;
+    while q < 41 {
+        floats[q] = triple_at(content, q);
+        q += 1;
+    }
+    floats
+}
+
+fn counts_at(c: &[u32; 504]) -> [u64; 6]
+    ensures { λ l. ⌜ l ≡ countsAt (now (c .entry)) ⌝ }
+{
+    [
+        wide(c[252]),
+        wide(c[253]),
+        wide(c[254]),
+        wide(c[255]),
+        wide(c[256]),
+        wide(c[257]),
+    ]
+}
+
+// The mathematics of these floats and counts.
+fn body_from(f: [Triple; 41], n: [u64; 6], samples: bool) -> Body
+    ensures { λ b. ⌜ b ≡ bodyFrom f n samples ⌝ }
+{
+    let settings = Settings {
+        h: f[39].x,
+        corrector_tol: f[39].y,
+        startup_tol: f[39].z,
+        max_corrector_iters: n[0],
+        max_startup_iters: n[1],
+        max_steps: n[2],
+        samples,
+    };
+    let plan = Plan {
+        settings,
+        t0: f[40].x,
+        tf: f[40].y,
+        h: f[40].z,
+    };
+    let places = Places {
+        r: [f[0], f[1], f[2], f[3], f[4], f[5], f[6], f[7], f[8]],
+        v: [f[9], f[10], f[11], f[12], f[13], f[14], f[15], f[16], f[17]],
+    };
+    let a = [
+        f[18],
+        f[19],
+        f[20],
+        f[21],
+        f[22],
+        f[23],
+        f[24],
+        f[25],
+        f[26],
+    ];
+    let slopes = Slopes {
+        l1: f[27],
+        l2: f[28],
+        l3: f[29],
+    };
+    let widest = Widest {
+        delta: f[38].x,
+        mag: f[38].y,
+    };
+    let state = State { r: f[30], v: f[31] };
+    let sums = Sums {
+        s: f[32],
+        big_s: f[33],
+    };
+    let track = Track {
+        t: f[38].z,
+        steps: n[4],
+        state,
+        sums,
+    };
+    let end = State { r: f[34], v: f[35] };
+    let fixed = Fixed {
+        fa: f[36],
+        fb: f[37],
+    };
+    let trial = Trial { state: end, fixed };
+    Body {
+        plan,
+        places,
+        a,
+        slopes,
+        widest,
+        startup_iters: n[3],
+        track,
+        trial,
+    }
+}
+
+// Form 1, a waiting point that there is, a flag of 0 or 1; and no number that its place in a run could not hold.
+fn is_known(c: &[u32; 504]) -> bool
+    ensures { λ b. ⌜ b ≡ isKnown (now (c .entry)) ⌝ }
+{
+    if c[0] != 1 {
+        return false;
+    }
+    if c[1] < 1 {
+        return false;
+    }
+    if c[1] > 8 {
+        return false;
+    }
+    if c[2] > 255 {
+        return false;
+    }
+    if c[3] > 255 {
+        return false;
+    }
+    if c[4] > 65535 {
+        return false;
+    }
+    c[5] <= 1
+}
+
+// The run of a content whose head is known.
+fn run_of(c: &[u32; 504]) -> Run
+    requires { ⌜ isKnown (now c) ≡ true ⌝ }
+    ensures { λ run. ⌜ run ≡ runOf (now (c .entry)) ⌝ }
+{
+    let counts = counts_at(c);
+    let mark = Mark {
+        at: c[1] as u8,
+        index: c[2] as u8,
+        stage: c[3] as u8,
+        count: Count {
+            number: c[4] as u16,
+            evals: counts[5],
+        },
+    };
+    let body = body_from(triples_in(c), counts, c[5] == 1);
+    Run { mark, body }
+}
+
+// Whether word j is used.
+fn is_word_used(u: Uses, j: usize) -> bool
+    ensures { λ b. ⌜ b ≡ wordUsed u j ⌝ }
+{
+    if j == 2 {
+        return u.index;
+    }
+    if j == 3 {
+        return u.stage;
+    }
+    if j < 6 {
+        return true;
+    }
+    if j < 252 {
+        return layout::is_used(u, (j - 6) / 2);
+    }
+    j < 258
+}
+
+fn still_zero(zero: bool, used: bool, word: u32) -> bool
+    ensures { λ b. ⌜ b ≡ stillZero zero used word ⌝ }
+{
+    if zero {
+        if used {
+            return true;
+        }
+        return word == 0;
+    }
+    false
+}
+
+fn is_unused_zero(c: &[u32; 504], u: Uses) -> bool
+    ensures { λ b. ⌜ b ≡ unusedIsZero (now (c .entry)) u 504 ⌝ }
+{
+    let mut zero = true;
+    let mut j = 0usize;
+    while j < 504 {
+        zero = still_zero(zero, is_word_used(u, j), c[j]);
+        j += 1;
+    }
+    zero
+}
+
+// What a content holds.
+pub fn judge(c: &[u32; 504]) -> Taken
+    ensures { λ t. ⌜ t ≡ judged (now (c .entry)) ⌝ }
+{
+    if is_known(c) {
+        return judge_known(c);
+    }
+    refuse()
+}
+
+fn judge_known(c: &[u32; 504]) -> Taken
+    requires { ⌜ isKnown (now c) ≡ true ⌝ }
+    ensures { λ t. ⌜ t ≡ judgedKnown (now (c .entry)) ⌝ }
+{
+    let run = run_of(c);
+    let u = layout::uses_of(waiting::waits_at(run.mark));
+    if is_unused_zero(c, u) {
+        if sound::is_sound(run) {
+            return Taken { taken: true, run };
+        }
+        return refuse();
+    }
+    refuse()
+}
+
+// Where a content is refused, the run is one that has ended.
+pub fn refuse() -> Taken
+    ensures { λ t. ⌜ t ≡ notTaken ⌝ }
+{
+    let run = no_run();
+    Taken { taken: false, run }
+}
+
+// A run that has ended: every number is zero.
+fn no_run() -> Run
+    ensures { λ run. ⌜ run ≡ noRun ⌝ }
+{
+    let zero = Triple::zero();
+    let mark = Mark {
+        at: 0,
+        index: 0,
+        stage: 0,
+        count: Count {
+            number: 0,
+            evals: 0,
+        },
+    };
+    let body = body_from([zero; 41], [0; 6], false);
+    Run { mark, body }
+}
