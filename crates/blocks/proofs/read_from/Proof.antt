@@ -1,21 +1,29 @@
--- `read_from`.
-use mathlib.Core.Path.{sym, _∙_}
+-- `read_from` is `readFrom`.
+use mathlib.Core.Path.{refl, sym, _∙_, ap}
+use Prim.Native.Nat.{ℕ}
+use mathlib.Core.Bool.{true}
+use mathlib.Core.List.{List}
 use borrow.Author.Needs.{needs}
-use Rattle.blocks.specs.Blocks.{readFrom}
-use Rattle.blocks.proofs.Whole.{whole-length}
+use borrow.Author.Tests.{ne-eqb}
+use Rattle.blocks.specs.Blocks.{contentOf, isWhole, readFrom}
+use Rattle.blocks.proofs.Filled.{filled-row}
 use Rattle.blocks.proofs.read_from.Statement.{statement}
 use Rattle.blocks.proofs.read_from.Tie as tie
 
-content-of-requires : tie.Need-content-of-requires
-content-of-requires c κs = whole-length _ (sym (c .before .is-whole .ensures) ∙ c .if1 .taken)
-
 returns : tie.Need-returns
-unfolding readFrom
-returns c = simp (c .content-of .ensures, sym (c .before .before .is-whole .ensures) ∙ c .before .if1 .taken)
+unfolding readFrom contentOf
+returns c =
+    let taken = c .before .read-form .ensures in
+    rw (sym (taken .0) ∙ c .if2 .taken)
+    (ap (λ (l : List ℕ). record { whole = true; content = l }) (taken .1 ∙ filled-row _ 504 _ 0 refl))
 
 returns-2 : tie.Need-returns-2
 unfolding readFrom
-returns-2 c = simp (sym (c .before .is-whole .ensures) ∙ c .if1 .left)
+returns-2 c = simp (sym (c .before .read-form .ensures .0) ∙ c .if2 .left)
+
+returns-3 : tie.Need-returns-3
+unfolding readFrom isWhole
+returns-3 c = simp (ne-eqb _ _ (c .if1 .left))
 
 pub read-from-spec : {M : Type 1} → statement M
-read-from-spec = tie.close (tie.spec (λ c κs. search needs) content-of-requires returns returns-2)
+read-from-spec = tie.close (tie.spec (λ c κs. search needs) returns returns-2 returns-3)

@@ -1,8 +1,8 @@
 -- `word_at` is `wordAt`.
 use borrow.Author.Needs.{needs}
 use Rattle.blocks.specs.Blocks.{wordAt}
-use Rattle.blocks.proofs.word_at.Statement.{statement}
-use Rattle.blocks.proofs.word_at.Tie as tie
+use Rattle.blocks.proofs.reading.word_at.Statement.{statement}
+use Rattle.blocks.proofs.reading.word_at.Tie as tie
 
 returns : tie.Need-returns
 unfolding wordAt
