@@ -24,7 +24,7 @@ module _ {A : Type 0} where
   past-filled f zero l i d h = refl
   past-filled f (suc n) l i d h = getD-set-other (filled f n l) n i (f n) d (λ (z : i ≡ n). omega arith) ∙ past-filled f n l i d (omega arith)
 
-  filled-rest : (f : ℕ → A) (n m : ℕ) (l : List A) (d : A) → length l ≡ m → n ≤ m → ((i : ℕ) → n ≤ i → getD l i d ≡ f i) → filled f n l ≡ row f m
+  filled-rest : (f : ℕ → A) (n m : ℕ) (l : List A) (d : A) → length l ≡ m → n ≤ m → ((i : ℕ) → n ≤ i → i < m → getD l i d ≡ f i) → filled f n l ≡ row f m
   filled-rest f n m l d e k rest =
       ext-getD d _ _ (length-filled f n l ∙ e ∙ sym (length-row f m))
       (λ (i : ℕ) (h : i < length (filled f n l)).
@@ -32,7 +32,7 @@ module _ {A : Type 0} where
     where
       go : (i : ℕ) → i < m → (x : Bool) → ltb i n ≡ x → getD (filled f n l) i d ≡ f i
       go i b true q = at-filled f n l i d (omega arith) (ltb-true _ _ q)
-      go i b false q = let j : n ≤ i = ltb-false _ _ q in past-filled f n l i d j ∙ rest i j
+      go i b false q = let j : n ≤ i = ltb-false _ _ q in past-filled f n l i d j ∙ rest i j b
 
   -- six values more, from value i + m on
   pub six-more : (f : ℕ → A) (i m k : ℕ) (l : List A) → i + m ≡ k
@@ -126,7 +126,7 @@ module _ (head : List ℕ) (u : Uses) (ts : List Triple) (counts : List ℕ) whe
   abbrev f : ℕ → ℕ
   f = contentWord head u ts counts
 
-  pub all-parts : (l : List ℕ) → length l ≡ 504 → ((i : ℕ) → getD l i 0 ≡ 0)
+  pub all-parts : (l : List ℕ) → length l ≡ 504 → ((i : ℕ) → i < 504 → getD l i 0 ≡ 0)
       → filledFrom (λ (j : ℕ). getD counts (j - 252) 0) 252 6 (filledFrom (λ (j : ℕ). floatWord u ts (j - 6)) 6 246 (filledFrom (λ (j : ℕ). getD head j 0) 0 6 l))
       ≡ contentFrom head u ts counts
   unfolding contentFrom filled
@@ -136,7 +136,7 @@ module _ (head : List ℕ) (u : Uses) (ts : List Triple) (counts : List ℕ) whe
       ∙ ap (filledFrom (λ (j : ℕ). getD counts (j - 252) 0) 252 6) (same-from (λ (j : ℕ). floatWord u ts (j - 6)) f 6 246 (filled f 6 l) floats ∙ filled-on f 6 246 l)
       ∙ same-from (λ (j : ℕ). getD counts (j - 252) 0) f 252 6 (filled f 252 l) numbers
       ∙ filled-on f 252 6 l
-      ∙ filled-rest f 258 504 l 0 e (omega arith) (λ (i : ℕ) (h : 258 ≤ i). z i ∙ sym (rest-part i h))
+      ∙ filled-rest f 258 504 l 0 e (omega arith) (λ (i : ℕ) (h : 258 ≤ i) (b : i < 504). z i b ∙ sym (rest-part i h))
     where
       floats : (j : ℕ) → 6 ≤ j → j < 6 + 246 → floatWord u ts (j - 6) ≡ contentWord head u ts counts j
       floats j a b = sym (float-part (j - 6) (omega arith)) ∙ ap (contentWord head u ts counts) (omega arith)
