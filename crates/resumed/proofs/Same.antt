@@ -41,16 +41,16 @@ use Rattle.stored.specs.Layout.{line, upToEpoch, usesOf, placeUsed, acceleratio
 use Rattle.stored.specs.Content.{countsIn}
 use Rattle.stored.specs.Taken.{bodyFrom}
 use Rattle.stored.specs.Trips.{keptFloat, keptTriple, cleaned}
-use Rattle.resumed.specs.Lines.{Machine}
+use Rattle.resumed.proofs.Machine.{Machine}
 
-abbrev whole : List Triple → List ℕ → Bool → Body
+abbrev whole : List Triple → List ℕ → ℕ → Body
 whole ts n s = bodyFrom ts n s
 
-abbrev clean : Waiting → List Triple → List ℕ → Bool → Body
+abbrev clean : Waiting → List Triple → List ℕ → ℕ → Body
 clean w ts n s = bodyFrom (row (keptTriple (usesOf w) ts) 41) n s
 
 abbrev Same : Waiting → Type 0
-Same w = (ts : List Triple) (n : List ℕ) (s : Bool) → restAt w (clean w ts n s) ≡ restAt w (whole ts n s)
+Same w = (ts : List Triple) (n : List ℕ) (s : ℕ) → restAt w (clean w ts n s) ≡ restAt w (whole ts n s)
 
 -- ---- the tail
 tail-sample : Same TailSample
@@ -125,7 +125,7 @@ survey-same [] p x y m a k l h = h a
 survey-same (i ∷ is) p x y m a k l h = ap₂ asks (m .0) (fun-ext (λ (b : Triple). survey-same is p x y (m .1) (set a i b) k l h))
 
 -- where the places of a clean body lie
-module _ (w : Waiting) (ts : List Triple) (n : List ℕ) (s : Bool) where
+module _ (w : Waiting) (ts : List Triple) (n : List ℕ) (s : ℕ) where
   abbrev c : Body
   c = clean w ts n s
 
