@@ -4,16 +4,10 @@
 ghost use mathlib.Core.Path.{_≡_};
 ghost use lib.Dec.{eqb};
 ghost use lib.ListN.{length};
-ghost use Rattle.blocks.specs.Blocks.{written, readFrom};
+ghost use Rattle.blocks.specs.Blocks.{written, isWhole, taken};
 
 mod reading;
 mod writing;
-
-// A stored form's content; zeros where the bytes are none.
-pub struct Read {
-    pub whole: bool,
-    pub content: [u32; 504],
-}
 
 // The content as a stored form in `out`, or false and nothing written where `out` is not 2,048 bytes.
 pub fn write_to(content: &[u32; 504], out: &mut [u8]) -> bool
@@ -27,21 +21,13 @@ pub fn write_to(content: &[u32; 504], out: &mut [u8]) -> bool
     true
 }
 
-// What the bytes hold, if they are a stored form.
-pub fn read_from(bytes: &[u8]) -> Read
-    ensures { λ r. ⌜ r ≡ readFrom (now (bytes .entry)) ⌝ }
+// Whether the bytes are a stored form; where they are 2,048 their content is taken either way.
+pub fn read_into(bytes: &[u8], content: &mut [u32; 504]) -> bool
+    ensures { λ r. ⌜ r ≡ isWhole (now (bytes .entry)) ⌝ }
+    ensures { λ _. ⌜ now (content .exit) ≡ taken (now (bytes .entry)) (now (content .entry)) ⌝ }
 {
-    let mut content = [0u32; 504];
-    if bytes.len() == 2048 {
-        if reading::read_form(bytes, &mut content) {
-            return Read {
-                whole: true,
-                content,
-            };
-        }
+    if bytes.len() != 2048 {
+        return false;
     }
-    Read {
-        whole: false,
-        content: [0; 504],
-    }
+    reading::read_form(bytes, content)
 }

@@ -3,7 +3,7 @@ use mathlib.Core.Path.{_≡_, refl, sym, _∙_, ap, ap₂}
 use Prim.Native.Nat.{ℕ, zero, suc, _+_, _-_, _*_, _/_, _%_, _^_, _≤_, _<_}
 use native.Mathlib.Nat.{div-add-mod'}
 use native.Mathlib.Omega.{arith}
-use mathlib.Core.Bool.{Bool, true, false, _&&_, cond}
+use mathlib.Core.Bool.{Bool, true, false, _&&_, _||_, cond}
 use mathlib.Core.List.{List, [], _∷_}
 use lib.Dec.{T, eqb, ltb, leb}
 use lib.ListN.{length, getD, List·getD-eq-default}
@@ -128,7 +128,7 @@ unfolding unusedIsZero stillZero
 all-zero c u z zero h = refl
 all-zero c u z (suc n) h = rw (all-zero c u z n (omega arith)) (go (wordUsed u n) refl)
   where
-    go : (d : Bool) → wordUsed u n ≡ d → cond d true (eqb (getD c n 0) 0) ≡ true
+    go : (d : Bool) → wordUsed u n ≡ d → (d || eqb (getD c n 0) 0) ≡ true
     go true e = refl
     go false e = eq-eqb _ _ (z n (omega arith) e)
 

@@ -14,9 +14,7 @@ use Rattle.gauss_jackson.specs.declared.Answered.{Answered}
 use Rattle.gauss_jackson.specs.declared.Outcome.{Outcome}
 use Rattle.gauss_jackson.specs.declared.Outcome.the-variants.{Ask, Done, Refused}
 use Rattle.gauss_jackson.specs.Answers.{refusing}
-use Rattle.blocks.specs.declared.Read.{Read}
-use Rattle.blocks.specs.Blocks.{isWhole, contentOf, readFrom}
-use Rattle.blocks.proofs.Whole.{apart}
+use Rattle.blocks.specs.Blocks.{isWhole, contentOf}
 use Rattle.run.proofs.Counts.{both}
 use Rattle.stored.specs.Layout.{usesOf}
 use Rattle.stored.specs.Taken.{runOf, isKnown, unusedIsZero, isStoredRun}
@@ -44,26 +42,3 @@ opened held bytes q t = go (isWhole bytes) (isStoredRun (contentOf bytes)) refl 
         record { whole = e; known = k .0; zeros = k .1; sound = h .1; run = rw (e, f) }
     go true false e f = never (loaded held bytes .outcome) StoredContent q t (rw (e, f))
     go false s e f = never (loaded held bytes .outcome) StoredShape q t (rw e)
-
--- ---- what `read_from` read
-pub whole-read : (r : Read) (bytes : List ℕ) → r ≡ readFrom bytes → r .whole ≡ true → (isWhole bytes ≡ true) × (r .content ≡ contentOf bytes)
-unfolding readFrom
-whole-read r bytes e t = go (isWhole bytes) refl
-  where
-    whole : r .whole ≡ readFrom bytes .whole
-    whole = ap (λ (x : Read). x .whole) e
-
-    go : (w : Bool) → isWhole bytes ≡ w → (isWhole bytes ≡ true) × (r .content ≡ contentOf bytes)
-    go true h = let z : readFrom bytes .content ≡ contentOf bytes = rw h in (h, ap (λ (x : Read). x .content) e ∙ z)
-    go false h = let z : readFrom bytes .whole ≡ false = rw h in apart (sym (whole ∙ z) ∙ t)
-
-pub not-read : (r : Read) (bytes : List ℕ) → r ≡ readFrom bytes → r .whole ≡ false → isWhole bytes ≡ false
-unfolding readFrom
-not-read r bytes e t = go (isWhole bytes) refl
-  where
-    whole : r .whole ≡ readFrom bytes .whole
-    whole = ap (λ (x : Read). x .whole) e
-
-    go : (w : Bool) → isWhole bytes ≡ w → isWhole bytes ≡ false
-    go true h = let z : readFrom bytes .whole ≡ true = rw h in apart (sym t ∙ whole ∙ z)
-    go false h = h

@@ -1,6 +1,6 @@
 -- W-201, loading: the run of a content, and which contents are one. "Floats are taken as they come."
 use Prim.Native.Nat.{ℕ, zero, suc, _+_, _-_, _*_, _/_, _^_}
-use mathlib.Core.Bool.{Bool, true, false, _&&_, cond}
+use mathlib.Core.Bool.{Bool, true, _&&_, _||_, cond}
 use mathlib.Core.List.{List, [], _∷_}
 use lib.Dec.{eqb, ltb, leb}
 use lib.ListN.{getD}
@@ -96,7 +96,7 @@ wordUsed u j =
     (ltb j 258))))
 
 unfoldable pub stillZero : Bool → Bool → ℕ → Bool
-stillZero so-far is-used word = cond so-far (cond is-used true (eqb word 0)) false
+stillZero so-far is-used word = so-far && (is-used || eqb word 0)
 
 -- of the first n words each that is not used is zero
 unfoldable pub unusedIsZero : List ℕ → Uses → ℕ → Bool

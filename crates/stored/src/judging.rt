@@ -3,15 +3,11 @@
 ghost use mathlib.Core.Path.{_≡_};
 ghost use mathlib.Core.Bool.{true};
 ghost use Prim.Native.Nat.{_<_};
-ghost use Rattle.refusals.specs.declared.Refusal.the-variants.{StoredContent};
-ghost use Rattle.gauss_jackson.specs.Answers.{refusing};
+ghost use Rattle.run.specs.Waiting.{waitsAt};
+ghost use Rattle.stored.specs.Layout.{usesOf};
 ghost use Rattle.stored.specs.Taken.{floatAt, tripleAt, triplesIn, countsAt, bodyFrom, isKnown, runOf, stillZero, unusedIsZero};
-ghost use Rattle.stored.specs.Stored.{takenUp, judged};
 use crate::layout;
 use crate::layout::Uses;
-use gauss_jackson::Answered;
-use gauss_jackson::Outcome;
-use refusals::Refusal;
 use run::Body;
 use run::Count;
 use run::Mark;
@@ -21,7 +17,6 @@ use run::Settings;
 use run::Slopes;
 use run::Track;
 use run::Trial;
-use run::sound;
 use run::waiting;
 use startup::Places;
 use startup::Widest;
@@ -154,7 +149,7 @@ fn body_from(f: [Triple; 41], n: [u64; 6], samples: u8) -> Body
 }
 
 // Form 1, a waiting point that there is, a flag of 0 or 1; and no number that its place in a run could not hold.
-fn is_known(c: &[u32; 504]) -> bool
+pub fn is_known(c: &[u32; 504]) -> bool
     ensures { λ b. ⌜ b ≡ isKnown (now (c .entry)) ⌝ }
 {
     if c[0] != 1 {
@@ -179,7 +174,7 @@ fn is_known(c: &[u32; 504]) -> bool
 }
 
 // The run of a content whose head is known.
-fn run_of(c: &[u32; 504]) -> Run
+pub fn run_of(c: &[u32; 504]) -> Run
     requires { ⌜ isKnown (now c) ≡ true ⌝ }
     ensures { λ run. ⌜ run ≡ runOf (now (c .entry)) ⌝ }
 {
@@ -197,16 +192,11 @@ fn run_of(c: &[u32; 504]) -> Run
     Run { mark, body }
 }
 
+// Without a branch: a form has 504 words.
 fn still_zero(zero: bool, used: bool, word: u32) -> bool
     ensures { λ b. ⌜ b ≡ stillZero zero used word ⌝ }
 {
-    if zero {
-        if used {
-            return true;
-        }
-        return word == 0;
-    }
-    false
+    zero & (used | (word == 0))
 }
 
 // Of the head, the index and the stage may be unused.
@@ -232,10 +222,11 @@ fn are_floats_zero(c: &[u32; 504], u: Uses) -> bool
     zero
 }
 
-// The counts are always used, and no word after them is.
-fn is_unused_zero(c: &[u32; 504], u: Uses) -> bool
-    ensures { λ b. ⌜ b ≡ unusedIsZero (now (c .entry)) u 504 ⌝ }
+// What a waiting point does not use is zero. The counts are always used, and no word after them is.
+pub fn is_unused_zero(c: &[u32; 504], mark: Mark) -> bool
+    ensures { λ b. ⌜ b ≡ unusedIsZero (now (c .entry)) (usesOf (waitsAt mark)) 504 ⌝ }
 {
+    let u = layout::uses_of(waiting::waits_at(mark));
     let mut zero = are_floats_zero(c, u);
     let mut n = 0usize;
     while n < 246 {
@@ -243,43 +234,4 @@ fn is_unused_zero(c: &[u32; 504], u: Uses) -> bool
         n += 1;
     }
     zero
-}
-
-// The run that a content holds, or 11.
-pub fn judge(held: Run, c: &[u32; 504]) -> Answered
-    ensures { λ x. ⌜ x ≡ judged held (now (c .entry)) ⌝ }
-{
-    if is_known(c) {
-        return judge_known(held, c);
-    }
-    refuse(held)
-}
-
-fn judge_known(held: Run, c: &[u32; 504]) -> Answered
-    requires { ⌜ isKnown (now c) ≡ true ⌝ }
-    ensures { λ x. ⌜ x ≡ judged held (now (c .entry)) ⌝ }
-{
-    let run = run_of(c);
-    let u = layout::uses_of(waiting::waits_at(run.mark));
-    if is_unused_zero(c, u) {
-        if sound::is_sound(run) {
-            return take_up(run);
-        }
-        return refuse(held);
-    }
-    refuse(held)
-}
-
-fn take_up(run: Run) -> Answered
-    ensures { λ x. ⌜ x ≡ takenUp run ⌝ }
-{
-    let outcome = gauss_jackson::open_question(run);
-    Answered { run, outcome }
-}
-
-fn refuse(held: Run) -> Answered
-    ensures { λ x. ⌜ x ≡ refusing held StoredContent ⌝ }
-{
-    let outcome = Outcome::Refused(Refusal::StoredContent);
-    Answered { run: held, outcome }
 }

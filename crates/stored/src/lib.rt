@@ -32,10 +32,19 @@ pub fn store(run: Run, out: &mut [u8]) -> Told
 pub fn load(held: Run, bytes: &[u8]) -> Answered
     ensures { λ x. ⌜ x ≡ loaded held (now (bytes .entry)) ⌝ }
 {
-    let read = blocks::read_from(bytes);
-    if read.whole {
-        let words = read.content;
-        return judging::judge(held, &words);
+    let mut words = [0u32; 504];
+    if blocks::read_into(bytes, &mut words) {
+        if judging::is_known(&words) {
+            let run = judging::run_of(&words);
+            if judging::is_unused_zero(&words, run.mark) {
+                if sound::is_sound(run) {
+                    let outcome = gauss_jackson::open_question(run);
+                    return Answered { run, outcome };
+                }
+            }
+        }
+        let outcome = Outcome::Refused(Refusal::StoredContent);
+        return Answered { run: held, outcome };
     }
     let outcome = Outcome::Refused(Refusal::StoredShape);
     Answered { run: held, outcome }

@@ -24,7 +24,7 @@ unfolding restZero
 loop-again c = (search needs, rw add-one (cc))
 
 returns : tie.Need-returns Inv-loop μ-loop
-returns c = let e : c .before .loop .n ≡ 246 = omega arith in c .before .loop .inv .1 ∙ (rw (e, c .before .before .are-floats-zero .ensures) (rest-zero (c .before .before .before .args .c .now) (c .before .before .before .args .u) 246))
+returns c = let e : c .before .loop .n ≡ 246 = omega arith in let u = c .before .before .before .uses-of .ensures in c .before .loop .inv .1 ∙ (rw (e, c .before .before .are-floats-zero .ensures, c .before .before .before .uses-of .ensures, c .before .before .before .before .waits-at .ensures) (rest-zero _ _ 246))
 
 pub is-unused-zero-spec : {M : Type 1} → statement M
-is-unused-zero-spec = tie.close (tie.spec Inv-loop μ-loop (λ c κs. search needs) loop-holds (λ c. search needs) (λ c. search needs) (λ c. search needs) (λ c κs. search needs) (λ c. search needs) (λ c. search needs) loop-again returns)
+is-unused-zero-spec = tie.close (tie.spec Inv-loop μ-loop (λ c κs. search needs) (λ c κs. search needs) (λ c κs. search needs) loop-holds (λ c. search needs) (λ c. search needs) (λ c. search needs) (λ c κs. search needs) (λ c. search needs) (λ c. search needs) loop-again returns)
