@@ -41,7 +41,7 @@ module _ {A : Type 0} where
   length-filled f zero l = refl
   length-filled f (suc n) l = length-set (filled f n l) n (f n) ∙ length-filled f n l
 
-  at-filled : (f : ℕ → A) (n : ℕ) (l : List A) (i : ℕ) (d : A) → n ≤ length l → i < n → getD (filled f n l) i d ≡ f i
+  pub at-filled : (f : ℕ → A) (n : ℕ) (l : List A) (i : ℕ) (d : A) → n ≤ length l → i < n → getD (filled f n l) i d ≡ f i
   unfolding filled
   at-filled f zero l i d h b = absurd (omega arith)
   at-filled f (suc n) l i d h b =

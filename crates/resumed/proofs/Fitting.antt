@@ -16,8 +16,8 @@ use Rattle.triple.specs.declared.Triple.{Triple}
 use Rattle.triple.specs.declared.State.{State}
 use Rattle.triple.specs.declared.Point.{Point}
 use Rattle.triple.specs.Arithmetic.{nought, zeros, plus, minus, times, over}
-use Rattle.triple.specs.Size.{absolute, larger, sizeOf}
-use Rattle.triple.specs.Nine.{at, nineZeros, slide}
+use Rattle.triple.specs.Size.{absolute, largerOf, sizeOf}
+use Rattle.triple.specs.Nine.{at, nineZeros, slid}
 use Rattle.rk4.specs.Rk4.{ending}
 use Rattle.sums.specs.declared.Sums.{Sums}
 use Rattle.sums.specs.declared.Fixed.{Fixed}
@@ -27,7 +27,7 @@ use Rattle.startup.specs.declared.Places.{Places}
 use Rattle.startup.specs.declared.Widest.{Widest}
 use Rattle.startup.specs.Points.{timeAt, stateAt, firstPlaces, placed}
 use Rattle.resumed.specs.Lines.{Double, Doubles}
-use Rattle.startup.specs.Passes.{sumsOn, lastSums, tiny, widened, calm, pointOn, pointBack, fourOn, fourBack, passPlaces}
+use Rattle.startup.specs.Passes.{sumsOn, lastSums, tiny, widened, calmAt, pointOn, pointBack, fourOn, fourBack, passPlaces}
 
 abbrev pub F : Float → Type 0
 F x = Double x
@@ -103,15 +103,15 @@ absolute-fit (inf s) h = inf-fits binary64 false
 absolute-fit (fin s zero e) h = unfold fits in h
 absolute-fit (fin s (suc m) e) h = unfold fits in h
 
-larger-fit : (x y : Float) → F x → F y → F (larger x y)
-unfolding larger
+larger-fit : (x y : Float) → F x → F y → F (largerOf x y)
+unfolding largerOf
 larger-fit x y h k = cond-fits binary64 (lt x y) y x k h
 
 size-fit : (t : Triple) → Fit t → F (sizeOf t)
 unfolding sizeOf
 size-fit t h =
-    cond-fits binary64 (isNan (t .x) || isNan (t .y) || isNan (t .z)) nan (larger (larger (absolute (t .x)) (absolute (t .y))) (absolute (t .z))) (nan-fits binary64)
-    (larger-fit (larger (absolute (t .x)) (absolute (t .y))) (absolute (t .z)) (larger-fit (absolute (t .x)) (absolute (t .y)) (absolute-fit (t .x) (h .x)) (absolute-fit (t .y) (h .y))) (absolute-fit (t .z) (h .z)))
+    cond-fits binary64 (isNan (t .x) || isNan (t .y) || isNan (t .z)) nan (largerOf (largerOf (absolute (t .x)) (absolute (t .y))) (absolute (t .z))) (nan-fits binary64)
+    (larger-fit (largerOf (absolute (t .x)) (absolute (t .y))) (absolute (t .z)) (larger-fit (absolute (t .x)) (absolute (t .y)) (absolute-fit (t .x) (h .x)) (absolute-fit (t .y) (h .y))) (absolute-fit (t .z) (h .z)))
 
 pub record FitWidest (w : Widest) : Type 0 where
   pub delta : F (w .delta)
@@ -155,8 +155,8 @@ pub zeros-row : Row nineZeros
 unfolding nineZeros
 zeros-row = nine-row zeros-fit zeros-fit zeros-fit zeros-fit zeros-fit zeros-fit zeros-fit zeros-fit zeros-fit
 
-pub slide-row : (a : List Triple) (t : Triple) → Row a → Fit t → Row (slide a t)
-unfolding slide
+pub slide-row : (a : List Triple) (t : Triple) → Row a → Fit t → Row (slid a t)
+unfolding slid
 slide-row a t h k = nine-row (h .fit 1) (h .fit 2) (h .fit 3) (h .fit 4) (h .fit 5) (h .fit 6) (h .fit 7) (h .fit 8) k
 
 pub record FitPlaces (p : Places) : Type 0 where
@@ -175,6 +175,6 @@ pass-fit h p a k =
       v = nine-row (point-fit _ _ _ _ .v) (point-fit _ _ _ _ .v) (point-fit _ _ _ _ .v) (point-fit _ _ _ _ .v) (k .v .fit 4) (point-fit _ _ _ _ .v) (point-fit _ _ _ _ .v) (point-fit _ _ _ _ .v) (point-fit _ _ _ _ .v);
     }
 
-pub calm-fit : (a : List Triple) → Row a → FitWidest (calm a)
-unfolding calm tiny
+pub calm-fit : (a : List Triple) → Row a → FitWidest (calmAt a)
+unfolding calmAt tiny
 calm-fit a h = widened-fit (record { delta = nought; mag = tiny }) (at a 4) (at a 4) (record { delta = nought-fits; mag = round-fits binary64 false 1 _ }) (h .fit 4)

@@ -15,7 +15,7 @@ use Rattle.triple.specs.Arithmetic.{nought, zeros}
 use Rattle.triple.specs.Nine.{at}
 use Rattle.sums.specs.Sums.{correctedState}
 use Rattle.startup.specs.Points.{stateAt, firstPlaces}
-use Rattle.startup.specs.Passes.{settled}
+use Rattle.startup.specs.Passes.{isSettled}
 use Rattle.run.specs.declared.Settings.{Settings}
 use Rattle.run.specs.declared.Plan.{Plan}
 use Rattle.run.specs.declared.Slopes.{Slopes}
@@ -28,15 +28,15 @@ use Rattle.run.specs.declared.waiting.Stage.{Stage}
 use Rattle.run.specs.declared.waiting.Stage.the-variants.{First, Second, Third, Fourth}
 use Rattle.run.specs.declared.waiting.Waiting.{Waiting}
 use Rattle.run.specs.declared.waiting.Waiting.the-variants.{Epoch, Forward, Backward, Survey, Pass, Step, Tail, TailSample, Ended, Unknown}
-use Rattle.run.specs.Plan.{planOf, tooNear, withinLimits}
-use Rattle.run.specs.Formulas.{goesOn, isShort, rests, startTrack, trackOn}
-use Rattle.run.specs.Waiting.{waitingOf, nextPoint}
-use Rattle.run.specs.Moves.{freshBody, surveyed, slopesWith, kept, stepEnd, movedOn, movedBack, passBegun, renewed, passMade, launched, predicted, tried, committed, tailEnd}
+use Rattle.run.specs.Plan.{planOf, isTooNear, areWithinLimits}
+use Rattle.run.specs.Formulas.{isDue, isTail, isAtRest, startTrack, trackOn}
+use Rattle.run.specs.Waiting.{waitsAt, nextPoint}
+use Rattle.run.specs.Moves.{freshBody, surveyed, withSlope, kept, endOf, movedOn, movedBack, passBegun, renewed, passMade, launched, predicted, tried, committed, endOfTail}
 use Rattle.run.specs.Samples.{fits}
-use Rattle.run.specs.Counting.{soundOf}
+use Rattle.run.specs.Sound.{isSound}
 use Rattle.gauss_jackson.specs.declared.Answered.{Answered}
 use Rattle.gauss_jackson.specs.declared.Outcome.{Outcome}
-use Rattle.gauss_jackson.specs.Answers.{noPlan, endedRun, ending, asking, onward, Turn, quiet, sampling, startupEnded, stepEnded, passesOn, passEnded, forwardTaken, backwardTaken, surveyTaken, passTaken, stepTaken, tailTaken, lastTaken, answeredAt, refusing, answered, started, counted}
+use Rattle.gauss_jackson.specs.Answers.{noPlan, endedRun, ending, asking, onward, Turn, quiet, sampling, startupEnded, stepEnded, passesOn, passEnded, forwardTaken, backwardTaken, surveyTaken, passTaken, stepTaken, tailTaken, lastTaken, answeredAt, refusing, answered, started, nextCount}
 use Rattle.resumed.proofs.Fitting.{F, Fit, FitState, FitSums, FitWidest, FitPlaces, Row, nought-fits, zeros-fit, ending-fit, predicted-fit, corrected-fit, fixed-fit, on-fit, last-fit, time-fit, widened-fit, row-set, zeros-row, slide-row, placed-fit, pass-fit, calm-fit}
 
 pub record FitPlan (p : Plan) : Type 0 where
@@ -77,8 +77,8 @@ module _ (b : Body) (g : Good b) where
   unfolding surveyed
   surveyed-good i x h = record { plan = g .plan; places = g .places; a = row-set _ i x (g .a) h; slopes = g .slopes; widest = g .widest; track = g .track; trial = g .trial }
 
-  slopes-good : (s : Stage) (x : Triple) → Fit x → FitSlopes (slopesWith s (b .slopes) x)
-  unfolding slopesWith
+  slopes-good : (s : Stage) (x : Triple) → Fit x → FitSlopes (withSlope s (b .slopes) x)
+  unfolding withSlope
   slopes-good First x h = record { l1 = h; l2 = g .slopes .l2; l3 = g .slopes .l3 }
   slopes-good Second x h = record { l1 = g .slopes .l1; l2 = h; l3 = g .slopes .l3 }
   slopes-good Third x h = record { l1 = g .slopes .l1; l2 = g .slopes .l2; l3 = h }
@@ -89,11 +89,11 @@ module _ (b : Body) (g : Good b) where
   kept-good s x h = record { plan = g .plan; places = g .places; a = g .a; slopes = slopes-good s x h; widest = g .widest; track = g .track; trial = g .trial }
 
   on-good : (i : ℕ) (x : Triple) → Good (movedOn i b x)
-  unfolding movedOn stepEnd
+  unfolding movedOn endOf
   on-good i x = record { plan = g .plan; places = placed-fit (i + 1) _ _ (ending-fit _ _ _ _ _ _) (g .places); a = g .a; slopes = g .slopes; widest = g .widest; track = g .track; trial = g .trial }
 
   back-good : (i : ℕ) (x : Triple) → Good (movedBack i b x)
-  unfolding movedBack stepEnd
+  unfolding movedBack endOf
   back-good i x = record { plan = g .plan; places = placed-fit (i - 1) _ _ (ending-fit _ _ _ _ _ _) (g .places); a = g .a; slopes = g .slopes; widest = g .widest; track = g .track; trial = g .trial }
 
   begun-good : Good (passBegun b)
@@ -193,8 +193,8 @@ eitherT false x y g h = h
 onward-good : (c : Count) (b : Body) → Good b → GoodA (onward c b)
 unfolding onward
 onward-good c b g =
-    either (goesOn (b .plan) (b .track .t)) _ _
-    (either (ltb (b .track .steps) (b .plan .settings .«max_steps»)) _ _ (either (isShort (b .plan) (b .track .t)) _ _ (asking-good (Tail First) c b g) (asking-good (Step 0) c (predicted b) (predicted-good b g))) (ended-good _))
+    either (isDue (b .plan) (b .track .t)) _ _
+    (either (ltb (b .track .steps) (b .plan .settings .«max_steps»)) _ _ (either (isTail (b .plan) (b .track .t)) _ _ (asking-good (Tail First) c b g) (asking-good (Step 0) c (predicted b) (predicted-good b g))) (ended-good _))
     (ended-good _)
 
 sampling-good : (n : ℕ) (ss : List Sample) (b : Body) (out : List Float) (x : Answered) → GoodA x → GoodT (sampling n ss b out x)
@@ -215,7 +215,7 @@ passes-on-good c b out g = eitherT (ltb (b .«startup_iters») (b .plan .setting
 
 pass-ended-good : (c : Count) (b : Body) (out : List Float) → Good b → GoodT (passEnded c b out)
 unfolding passEnded
-pass-ended-good c b out g = eitherT (settled (b .plan .settings .«startup_tol») (b .widest)) _ _ (startup-ended-good c (passMade b) out (made-good b g)) (passes-on-good c (passMade b) out (made-good b g))
+pass-ended-good c b out g = eitherT (isSettled (b .plan .settings .«startup_tol») (b .widest)) _ _ (startup-ended-good c (passMade b) out (made-good b g)) (passes-on-good c (passMade b) out (made-good b g))
 
 forward-good : (i : ℕ) (s : Stage) (c : Count) (b : Body) (x : Triple) → Good b → Fit x → GoodA (forwardTaken i s c b x)
 unfolding forwardTaken
@@ -238,7 +238,7 @@ unfolding stepTaken
 step-good n c b x out g h =
     let y = correctedState (b .plan .h) (b .track .sums) (b .trial .fixed) x in
     eitherT (ltb n (b .plan .settings .«max_corrector_iters»)) _ _
-    (eitherT (rests (b .plan .settings .«corrector_tol») (b .trial .state) y) _ _ (step-ended-good c (committed b y x) out (committed-good b g y x (corrected-fit _ _ _ _) h)) (record { got = asking-good (Step (n + 1)) c (tried b y) (tried-good b g y (corrected-fit _ _ _ _)) }))
+    (eitherT (isAtRest (b .plan .settings .«corrector_tol») (b .trial .state) y) _ _ (step-ended-good c (committed b y x) out (committed-good b g y x (corrected-fit _ _ _ _) h)) (record { got = asking-good (Step (n + 1)) c (tried b y) (tried-good b g y (corrected-fit _ _ _ _)) }))
     (step-ended-good c (committed b (b .trial .state) x) out (committed-good b g (b .trial .state) x (g .trial .state) h))
 
 tail-good : (s : Stage) (c : Count) (b : Body) (x : Triple) → Good b → Fit x → GoodA (tailTaken s c b x)
@@ -247,7 +247,7 @@ tail-good First c b x g h = asking-good (Tail Second) c (kept First b x) (kept-g
 tail-good Second c b x g h = asking-good (Tail Third) c (kept Second b x) (kept-good b g Second x h)
 tail-good Third c b x g h = asking-good (Tail Fourth) c (kept Third b x) (kept-good b g Third x h)
 tail-good Fourth c b x g h =
-    either (b .plan .settings .samples) _ _ (asking-good TailSample c (tried b (tailEnd b x)) (tried-good b g (tailEnd b x) (unfold tailEnd stepEnd in ending-fit _ _ _ _ _ _))) (ended-good _)
+    either (b .plan .settings .samples) _ _ (asking-good TailSample c (tried b (endOfTail b x)) (tried-good b g (endOfTail b x) (unfold endOfTail endOf in ending-fit _ _ _ _ _ _))) (ended-good _)
 
 answered-at-good : (w : Waiting) (c : Count) (b : Body) (x : Triple) (out : List Float) → Good b → Fit x → GoodT (answeredAt w c b x out)
 unfolding answeredAt surveyTaken passTaken lastTaken
@@ -267,12 +267,12 @@ answered-at-good Unknown c b x out g h = record { got = ended-good _ }
 pub answered-good : (run : Run) (n : ℕ) (x : Triple) (out : List Float) → GoodRun run → Fit x → GoodT (answered run n x out)
 unfolding answered refusing
 answered-good run n x out g h =
-    eitherT (soundOf run) _ _ (eitherT (eqb (run .mark .count .number) n) _ _ (answered-at-good (waitingOf (run .mark)) (counted (run .mark .count)) (run .body) x out g h) (record { got = record { body = g } })) (record { got = record { body = g } })
+    eitherT (isSound run) _ _ (eitherT (eqb (run .mark .count .number) n) _ _ (answered-at-good (waitsAt (run .mark)) (nextCount (run .mark .count)) (run .body) x out g h) (record { got = record { body = g } })) (record { got = record { body = g } })
 
 pub started-good : (s : Settings) (t0 tf : Float) (r0 v0 : Triple) → F (s .h) → F (s .«corrector_tol») → F (s .«startup_tol») → F t0 → F tf → Fit r0 → Fit v0 → GoodA (started s t0 tf r0 v0)
 unfolding started planOf
 started-good s t0 tf r0 v0 a b c d e r v =
-    either (withinLimits s) _ _
-    (either (tooNear (planOf s t0 tf)) _ _ (ended-good _)
+    either (areWithinLimits s) _ _
+    (either (isTooNear (planOf s t0 tf)) _ _ (ended-good _)
     (asking-good Epoch _ _ (fresh-good _ r0 v0 (record { step = a; corrector = b; startup = c; t0 = d; tf = e; h = mul-fits binary64 _ _ }) r v)))
     (ended-good _)

@@ -7,8 +7,8 @@ use lib.Ieee.{Float}
 use Rattle.triple.specs.declared.Triple.{Triple}
 use Rattle.run.specs.declared.Settings.{Settings}
 use Rattle.run.specs.declared.Run.{Run}
-use Rattle.run.specs.Waiting.{waitingOf}
-use Rattle.run.specs.Counting.{soundOf}
+use Rattle.run.specs.Waiting.{waitsAt}
+use Rattle.run.specs.Sound.{isSound}
 use Rattle.run.proofs.Decoding.{read}
 use Rattle.gauss_jackson.specs.Answers.{answered, started}
 use Rattle.rules.specs.Rules.{Course}
@@ -28,12 +28,12 @@ use Rattle.resumed.proofs.Machine.{machines}
 
 -- ---- the run that is taken up stands where the run stood that was put away
 line-same : (run : Run) → Machine run → lineOf (carried run) ≡ lineOf run
-line-same run m = go (soundOf run) refl
+line-same run m = go (isSound run) refl
   where
-    go : (d : Bool) → soundOf run ≡ d → lineOf (carried run) ≡ lineOf run
+    go : (d : Bool) → isSound run ≡ d → lineOf (carried run) ≡ lineOf run
     go true t =
         ap lineOf (carried-is run t m)
-        ∙ (unfold lineOf cleaned in rw (sound-same run) (ap (λ (c : Course). cond (soundOf run) (opened (run .mark .count .number) (run .mark .count .evals) c) over) (rest-same run t m)))
+        ∙ (unfold lineOf cleaned in rw (sound-same run) (ap (λ (c : Course). cond (isSound run) (opened (run .mark .count .number) (run .mark .count .evals) c) over) (rest-same run t m)))
     go false t = ap lineOf (unfold carried in rw t)
 
 -- from any run at all

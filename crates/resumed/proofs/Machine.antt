@@ -11,8 +11,8 @@ use Rattle.triple.specs.Arithmetic.{nought}
 use Rattle.triple.specs.Nine.{at}
 use Rattle.run.specs.declared.Body.{Body}
 use Rattle.run.specs.declared.Run.{Run}
-use Rattle.run.specs.Waiting.{waitingOf}
-use Rattle.run.specs.Counting.{soundOf}
+use Rattle.run.specs.Waiting.{waitsAt}
+use Rattle.run.specs.Sound.{isSound}
 use Rattle.gauss_jackson.specs.Answers.{answered}
 use Rattle.blocks.specs.Rows.{row}
 use Rattle.stored.specs.declared.layout.Uses.{Uses}
@@ -53,7 +53,7 @@ kept-fit u ts h q =
 clean-good : (run : Run) → GoodRun run → GoodRun (cleaned run)
 unfolding cleaned bodyFrom row
 clean-good run g =
-    let k = kept-fit (usesOf (waitingOf (run .mark))) (triplesOf (run .body)) (floats-fit (run .body) g) in
+    let k = kept-fit (usesOf (waitsAt (run .mark))) (triplesOf (run .body)) (floats-fit (run .body) g) in
     record {
       plan = record { step = k 39 .x; corrector = k 39 .y; startup = k 39 .z; t0 = k 40 .x; tf = k 40 .y; h = k 40 .z };
       places =
@@ -69,9 +69,9 @@ clean-good run g =
     }
 
 carried-good : (run : Run) → GoodRun run → GoodRun (carried run)
-carried-good run g = go (soundOf run) refl
+carried-good run g = go (isSound run) refl
   where
-    go : (d : Bool) → soundOf run ≡ d → GoodRun (carried run)
+    go : (d : Bool) → isSound run ≡ d → GoodRun (carried run)
     go true t = rw (carried-is run t (machine run g)) (clean-good run g)
     go false t = unfold carried in rw t g
 

@@ -10,7 +10,7 @@ use lib.Ieee.{Float, binary64, fits}
 use Rattle.triple.specs.declared.Triple.{Triple}
 use Rattle.run.specs.declared.Settings.{Settings}
 use Rattle.run.specs.declared.Run.{Run}
-use Rattle.run.specs.Counting.{soundOf}
+use Rattle.run.specs.Sound.{isSound}
 use Rattle.gauss_jackson.specs.Answers.{answered, started}
 use Rattle.rules.specs.Walk.{Call, Result, walk, begin}
 use Rattle.rules.specs.Follows.{heard}
@@ -25,7 +25,7 @@ pub data Event : Type 0 where
 
 -- the run that is taken up again. Where `store` says 7 nothing was put away, and the run stays.
 unfoldable pub carried : Run → Run
-carried run = cond (soundOf run) (loaded (storedIn run (replicate 2048 0)) .run) run
+carried run = cond (isSound run) (loaded (storedIn run (replicate 2048 0)) .run) run
 
 -- events one after the other, each on the run that the one before left: what the calls have to tell
 unfoldable pub played : Run → List Event → List Result
