@@ -143,10 +143,20 @@ pub fn case(rng: &mut Random, name: String) -> Case {
     c
 }
 
-pub fn random(seed: u64, count: u64, out: &mut impl Write) -> io::Result<()> {
+/// So many cases from a seed.
+pub fn drawn(seed: u64, count: u64) -> impl Iterator<Item = Case> {
     let mut rng = Random(seed);
-    for n in 0..count {
-        writeln!(out, "{}", case(&mut rng, format!("r{seed}-{n}")).line())?;
+    (0..count).map(move |n| case(&mut rng, format!("r{seed}-{n}")))
+}
+
+/// The same, one in four to be put away on its way. That has a generator of its own, so that a seed gives the cases that it always gave.
+pub fn random(seed: u64, count: u64, out: &mut impl Write) -> io::Result<()> {
+    let mut rng = Random(!seed);
+    for mut c in drawn(seed, count) {
+        if rng.once_in(4) {
+            c.away = rng.pick(&[1, 1, 1, 2, 3, 5, 8, 41]);
+        }
+        writeln!(out, "{}", c.line())?;
     }
     Ok(())
 }

@@ -1,7 +1,7 @@
 // SPDX-License-Identifier: MIT OR Apache-2.0
 //! The stored list of cases: 01's edges, corners, grids, and a few random ones.
 use crate::case::Case;
-use crate::cases::{plain, random, SPECIAL, TOLERANCES};
+use crate::cases::{drawn, plain, SPECIAL, TOLERANCES};
 use crate::force::Force;
 use crate::tables;
 use std::io::{self, Write};
@@ -144,6 +144,8 @@ pub fn print(out: &mut impl Write) -> io::Result<()> {
         writeln!(out, "{line}")?;
     }
     writeln!(out, "\n# Random cases and tables.")?;
-    random(1, 180, out)?;
+    for c in drawn(1, 180) {
+        writeln!(out, "{}", c.line())?;
+    }
     tables::random(1, 60, out)
 }
