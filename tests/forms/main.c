@@ -45,8 +45,10 @@ static void check_run(const struct kept_form *form, const gj_run *run) {
     const gj_mark *m = &run->mark;
     check(m->at == form->point[0] && m->index == form->point[1] && m->stage == form->point[2], form, "the waiting point");
     check(m->count.number == form->number && s->samples == form->samples, form, "the number or the flag");
-    check(s->max_corrector_iters == form->limits[0] && s->max_startup_iters == form->limits[1] && s->max_steps == form->limits[2], form, "the limits");
-    check(run->body.startup_iters == form->made[0] && run->body.track.steps == form->made[1] && m->count.evals == form->made[2], form, "the counts");
+    const uint64_t limits[3] = {s->max_corrector_iters, s->max_startup_iters, s->max_steps};
+    const uint64_t made[3] = {run->body.startup_iters, run->body.track.steps, m->count.evals};
+    check(memcmp(limits, form->limits, sizeof limits) == 0, form, "the limits");
+    check(memcmp(made, form->made, sizeof made) == 0, form, "the counts");
 }
 
 static const struct kept_form *find(const char *name) {

@@ -19,8 +19,18 @@ static gj_triple force(const struct kept_run *run, const gj_reply *q) {
     return a;
 }
 
+static void print_float(double x) { printf(" %016llx", (unsigned long long)bits_of(x)); }
+
 static void print_triple(const char *word, gj_triple t) {
-    printf("%s %016llx %016llx %016llx\n", word, (unsigned long long)bits_of(t.x), (unsigned long long)bits_of(t.y), (unsigned long long)bits_of(t.z));
+    printf("%s", word);
+    print_float(t.x);
+    print_float(t.y);
+    print_float(t.z);
+    printf("\n");
+}
+
+static void print_counts(const char *word, uint64_t a, uint64_t b, uint64_t c) {
+    printf("%s %llu %llu %llu\n", word, (unsigned long long)a, (unsigned long long)b, (unsigned long long)c);
 }
 
 static void print_numbers(const gj_run *run, const gj_reply *q) {
@@ -28,9 +38,11 @@ static void print_numbers(const gj_run *run, const gj_reply *q) {
     printf("point %u %u %u\n", run->mark.at, run->mark.index, run->mark.stage);
     printf("number %u\n", q->number);
     printf("samples %u\n", s->samples);
-    printf("limits %llu %llu %llu\n", (unsigned long long)s->max_corrector_iters, (unsigned long long)s->max_startup_iters, (unsigned long long)s->max_steps);
-    printf("made %llu %llu %llu\n", (unsigned long long)run->body.startup_iters, (unsigned long long)run->body.track.steps, (unsigned long long)run->mark.count.evals);
-    printf("t %016llx\n", (unsigned long long)bits_of(q->t));
+    print_counts("limits", s->max_corrector_iters, s->max_startup_iters, s->max_steps);
+    print_counts("made", run->body.startup_iters, run->body.track.steps, run->mark.count.evals);
+    printf("t");
+    print_float(q->t);
+    printf("\n");
     print_triple("r", q->r);
     print_triple("v", q->v);
 }

@@ -25,6 +25,7 @@ $1 == "bytes" {
 { fail("not understood") }
 END {
     if (failed) exit 1
-    if (count != 2048 || point == "" || number == "" || samples == "" || limits == "" || made == "" || t == "" || place == "") fail("a part is missing")
+    if (point == "" || number == "" || samples == "" || limits == "" || made == "" || t == "" || place == "") fail("a part is missing")
+    if (count != 2048) fail("there are " count " bytes")
     printf "{\"%s\", \"%s\", {%s}, %s, %s, {%s}, {%s}, {%s%s}, {%s}},\n", name, again, point, number, samples, limits, made, t, place, bytes
 }
