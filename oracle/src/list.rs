@@ -104,6 +104,45 @@ fn grids() -> Vec<Case> {
     all
 }
 
+/// Put away and taken up on the way: before every answer, before some, never reached; through tails, limits, NaN and backward.
+fn away() -> Vec<Case> {
+    let put = |name: &str, every: usize, change: fn(&mut Case)| {
+        like(name, |c| {
+            c.away = every;
+            change(c);
+        })
+    };
+    let mut all = vec![
+        put("away-plain", 1, |_| ()),
+        put("away-tail-samples", 1, |c| (c.tf, c.h, c.samples) = (17.0, 2.0, true)),
+        put("away-back", 1, |c| (c.t0, c.tf, c.h, c.samples) = (100.0, 20.0, -10.0, true)),
+        put("away-mix", 1, |c| (c.tf, c.force, c.max_startup, c.max_corrector, c.samples) = (10.5, Force::Mix, 2, 2, true)),
+        put("away-lcg", 1, |c| (c.tf, c.force, c.max_startup, c.max_corrector, c.samples) = (9.5, Force::Lcg, 2, 3, true)),
+        put("away-all-nan", 1, |c| (c.p[0], c.startup_tol, c.corrector_tol) = (f64::NAN, 1e-13, 1e-13)),
+        put("away-minus-zero", 1, |c| (c.t0, c.r0[0], c.samples) = (-0.0, -0.0, true)),
+        put("away-subnormal", 2, |c| (c.tf, c.h, c.samples) = (8.5 * 1e-320, 1e-320, true)),
+        put("away-tenths", 3, |c| (c.tf, c.h, c.samples) = (0.8, 0.1, true)),
+        put("away-passes", 8, |c| (c.max_startup, c.max_corrector, c.force) = (6, 4, Force::Cub)),
+        put("away-after-survey", 41, |c| c.samples = true),
+        put("away-never-reached", 1000, |_| ()),
+        put("away-limit", 1, |c| (c.max_steps, c.samples) = (7, true)),
+        put("away-refused", 1, |c| (c.tf, c.h) = (15.0, 2.0)),
+    ];
+    all.extend(drawn(2, 20).map(|mut c| {
+        c.away = 1;
+        c
+    }));
+    all
+}
+
+/// A run long enough for its numbers to begin again at 0, by its end alone.
+fn away_late() -> Case {
+    like("away-late", |c| (c.tf, c.max_corrector, c.p, c.away) = (30000.0, 2, [-0.01, 0.0, 0.0, 0.0], 997))
+}
+
+/// What may not follow a case.
+const BAD_AWAY: [&str; 5] = [" away", " away 0", " away 12345678901", " aways 2", " away 2 3"];
+
 /// Lines that have no such shape; each is answered `bad line N`.
 const BAD: [&str; 6] = [
     "case short 0000000000000000",
@@ -147,5 +186,14 @@ pub fn print(out: &mut impl Write) -> io::Result<()> {
     for c in drawn(1, 180) {
         writeln!(out, "{}", c.line())?;
     }
-    tables::random(1, 60, out)
+    tables::random(1, 60, out)?;
+    writeln!(out, "\n# Runs that are put away and taken up on their way, then misshapen words for it.")?;
+    for c in away() {
+        writeln!(out, "{}", c.line())?;
+    }
+    writeln!(out, "{}", away_late().line().replacen("case", "final", 1))?;
+    for words in BAD_AWAY {
+        writeln!(out, "{}{words}", plain("away-bad").line())?;
+    }
+    Ok(())
 }
