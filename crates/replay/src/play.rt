@@ -9,6 +9,7 @@ use gauss_jackson::Answered;
 use gauss_jackson::Outcome;
 use gauss_jackson::Question;
 use gauss_jackson::Run;
+use gauss_jackson::Solution;
 
 pub struct Playing {
     pub now: Answered,
@@ -48,6 +49,16 @@ fn print_samples(held: usize, samples: &[f64]) {
     }
 }
 
+// The end of a finished run, and before it the samples, unless only the end is wanted; says how many numbers of samples there are.
+fn finish(case: Case, s: Solution, whole: bool, samples: &[f64]) -> usize {
+    let held = stored(case, s.steps, samples);
+    if whole {
+        print_samples(held, samples);
+    }
+    text::print_done(s);
+    held
+}
+
 // Plays a case, and says how many numbers of samples it leaves. The transcript is whole, or its end alone.
 pub fn play(case: Case, whole: bool, samples: &mut [f64]) -> usize {
     let first = gauss_jackson::start(case.settings, case.t0, case.tf, case.r0, case.v0);
@@ -62,12 +73,7 @@ pub fn play(case: Case, whole: bool, samples: &mut [f64]) -> usize {
                 playing = play_on(q, now.run, playing.force, whole, samples);
             }
             Outcome::Done(s) => {
-                let held = stored(case, s.steps, samples);
-                if whole {
-                    print_samples(held, samples);
-                }
-                text::print_done(s);
-                return held;
+                return finish(case, s, whole, samples);
             }
             Outcome::Refused(e) => {
                 text::print_refused(refusals::number_of(e) as u64);
