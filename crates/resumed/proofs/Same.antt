@@ -37,7 +37,7 @@ use Rattle.rules.specs.Rules.{Course, asks, rk4, forward, backward, others, sur
 use Rattle.rules.proofs.Rest.{passed, due, last, tailed, later, after1, after2, after3, stage, next, restAt, rest}
 use Rattle.blocks.specs.Rows.{row}
 use Rattle.blocks.proofs.Filled.{row-of}
-use Rattle.stored.specs.Layout.{line, upToEpoch, usesOf, placeUsed, accelerationUsed, used, triplesOf, component, floatNo}
+use Rattle.stored.specs.Layout.{line, upToEpoch, usesOf, placeUsed, accelerationUsed, tripleUsed, used, triplesOf, component, floatNo}
 use Rattle.stored.specs.Content.{countsIn}
 use Rattle.stored.specs.Taken.{bodyFrom}
 use Rattle.stored.specs.Trips.{keptFloat, keptTriple, cleaned}
@@ -54,11 +54,11 @@ Same w = (ts : List Triple) (n : List ℕ) (s : ℕ) → restAt w (clean w ts n 
 
 -- ---- the tail
 tail-sample : Same TailSample
-unfolding restAt next questionAt bodyFrom row keptTriple keptFloat used usesOf line placeUsed accelerationUsed upToEpoch floatNo component lastPoint finalPoint last
+unfolding restAt next questionAt bodyFrom row keptTriple keptFloat used tripleUsed usesOf line placeUsed accelerationUsed upToEpoch floatNo component lastPoint finalPoint last
 tail-sample ts n s = refl
 
 tail-at : (s : Stage) → Same (Tail s)
-unfolding restAt next questionAt bodyFrom row keptTriple keptFloat used usesOf line placeUsed accelerationUsed upToEpoch floatNo component stageQuestion gridPoint pointAt placed endOf stage after1 after2 after3 kept withSlope rk4 tailFrom finalPoint last tailed endOfTail
+unfolding restAt next questionAt bodyFrom row keptTriple keptFloat used tripleUsed usesOf line placeUsed accelerationUsed upToEpoch floatNo component stageQuestion gridPoint pointAt placed endOf stage after1 after2 after3 kept withSlope rk4 tailFrom finalPoint last tailed endOfTail
 tail-at First ts n s = refl
 tail-at Second ts n s = refl
 tail-at Third ts n s = refl
@@ -77,7 +77,7 @@ correct-same (suc left) p t m x y z f e b commit =
     (fun-ext (λ (c : Triple). correct-same left p t m x y z f (correctedState (p .h) z f b) c commit))
 
 step-at : (m : ℕ) → Same (Step m)
-unfolding restAt next questionAt bodyFrom row keptTriple keptFloat used usesOf line placeUsed accelerationUsed upToEpoch floatNo component endPoint stepPoint due committed trackOn slid
+unfolding restAt next questionAt bodyFrom row keptTriple keptFloat used tripleUsed usesOf line placeUsed accelerationUsed upToEpoch floatNo component endPoint stepPoint due committed trackOn slid
 step-at m ts n s =
     let b = whole ts n s in
     ap (asks (questionAt (Step m) b))
@@ -154,7 +154,7 @@ module _ (w : Waiting) (ts : List Triple) (n : List ℕ) (s : ℕ) where
   survey-end = passes-same (q 0) (q 1) (q 2) (q 3) (at ts 0) (at ts 1) (at ts 2) (at ts 3) rs (q 9) (q 10) (q 11) (q 12) (at ts 9) (at ts 10) (at ts 11) (at ts 12) vs
 
 pass-at : (i : ℕ) → i ≤ 8 → i ≢ 4 → Same (Pass i)
-unfolding restAt next questionAt bodyFrom row keptTriple keptFloat used usesOf line placeUsed accelerationUsed upToEpoch floatNo component gridPoint pointAt renewed later
+unfolding restAt next questionAt bodyFrom row keptTriple keptFloat used tripleUsed usesOf line placeUsed accelerationUsed upToEpoch floatNo component gridPoint pointAt renewed later
 pass-at zero h o ts n s =
     let b = whole ts n s in
     ap (asks (questionAt (Pass 0) b))
@@ -207,7 +207,7 @@ pass-at (suc (suc (suc (suc (suc (suc (suc (suc zero)))))))) h o ts n s =
 pass-at (suc (suc (suc (suc (suc (suc (suc (suc (suc i))))))))) h o ts n s = absurd (omega arith)
 
 survey-at : (i : ℕ) → i ≤ 8 → i ≢ 4 → Same (Survey i)
-unfolding restAt next questionAt bodyFrom row keptTriple keptFloat used usesOf line placeUsed accelerationUsed upToEpoch floatNo component gridPoint pointAt surveyed later survey
+unfolding restAt next questionAt bodyFrom row keptTriple keptFloat used tripleUsed usesOf line placeUsed accelerationUsed upToEpoch floatNo component gridPoint pointAt surveyed later survey
 survey-at zero h o ts n s =
     let b = whole ts n s in
     ap (asks (questionAt (Survey 0) b))
@@ -277,7 +277,7 @@ survey-at (suc (suc (suc (suc (suc (suc (suc (suc (suc i))))))))) h o ts n s = a
 
 -- ---- the RK4 steps of the startup: every point that was not reached is set before it is read
 backward-at : (i : ℕ) (t : Stage) → 1 ≤ i → i ≤ 4 → Same (Backward i t)
-unfolding restAt next questionAt bodyFrom row keptTriple keptFloat used usesOf line placeUsed accelerationUsed upToEpoch floatNo component stageQuestion gridPoint pointAt placed endOf stage after1 after2 after3 kept withSlope rk4 movedBack backward survey
+unfolding restAt next questionAt bodyFrom row keptTriple keptFloat used tripleUsed usesOf line placeUsed accelerationUsed upToEpoch floatNo component stageQuestion gridPoint pointAt placed endOf stage after1 after2 after3 kept withSlope rk4 movedBack backward survey
 backward-at zero t h k ts n s = absurd (omega arith)
 backward-at (suc zero) First h k ts n s = refl
 backward-at (suc zero) Second h k ts n s = refl
@@ -298,7 +298,7 @@ backward-at (suc (suc (suc (suc zero)))) Fourth h k ts n s = refl
 backward-at (suc (suc (suc (suc (suc i))))) t h k ts n s = absurd (omega arith)
 
 forward-at : (i : ℕ) (t : Stage) → 4 ≤ i → i ≤ 7 → Same (Forward i t)
-unfolding restAt next questionAt bodyFrom row keptTriple keptFloat used usesOf line placeUsed accelerationUsed upToEpoch floatNo component stageQuestion gridPoint pointAt placed endOf stage after1 after2 after3 kept withSlope rk4 movedOn forward backward survey
+unfolding restAt next questionAt bodyFrom row keptTriple keptFloat used tripleUsed usesOf line placeUsed accelerationUsed upToEpoch floatNo component stageQuestion gridPoint pointAt placed endOf stage after1 after2 after3 kept withSlope rk4 movedOn forward backward survey
 forward-at zero t h k ts n s = absurd (omega arith)
 forward-at (suc zero) t h k ts n s = absurd (omega arith)
 forward-at (suc (suc zero)) t h k ts n s = absurd (omega arith)
@@ -322,7 +322,7 @@ forward-at (suc (suc (suc (suc (suc (suc (suc zero))))))) Fourth h k ts n s = re
 forward-at (suc (suc (suc (suc (suc (suc (suc (suc i)))))))) t h k ts n s = absurd (omega arith)
 
 epoch : Same Epoch
-unfolding restAt next questionAt bodyFrom row keptTriple keptFloat used usesOf line placeUsed accelerationUsed upToEpoch floatNo component stageQuestion gridPoint pointAt placed endOf stage after1 after2 after3 kept withSlope rk4 epochPoint surveyed forward backward survey
+unfolding restAt next questionAt bodyFrom row keptTriple keptFloat used tripleUsed usesOf line placeUsed accelerationUsed upToEpoch floatNo component stageQuestion gridPoint pointAt placed endOf stage after1 after2 after3 kept withSlope rk4 epochPoint surveyed forward backward survey
 epoch ts n s = refl
 
 same : (w : Waiting) (e : ℕ) (b : Body) → Counts w e b → Same w

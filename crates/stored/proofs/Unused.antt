@@ -7,8 +7,8 @@ use mathlib.Core.List.{List}
 use lib.ListN.{getD}
 use borrow.Author.Tests.{ne-eqb, lt-ltb, le-ltb}
 use Rattle.stored.specs.declared.layout.Uses.{Uses}
-use Rattle.stored.specs.Layout.{used}
-use Rattle.stored.specs.Taken.{wordUsed, stillZero, unusedIsZero}
+use Rattle.stored.specs.Layout.{tripleUsed, used}
+use Rattle.stored.specs.Taken.{wordUsed, stillZero, sixZero, middleZero, unusedIsZero}
 
 -- a word that is used changes nothing
 pub used-passes : (z : Bool) (w : ℕ) → stillZero z true w ≡ z
@@ -40,16 +40,51 @@ module _ (c : List ℕ) (u : Uses) where
       ∙ used-passes _ (getD c 4 0)
       ∙ ap (λ (z : Bool). stillZero (stillZero z (u .index) (getD c 2 0)) (u .stage) (getD c 3 0)) (used-passes _ (getD c 1 0) ∙ used-passes true (getD c 0 0))
 
-  -- two words on: float k
-  pub float-zero : (k : ℕ) → k < 123
-      → unusedIsZero c u (2 * k + 6 + 2) ≡ stillZero (stillZero (unusedIsZero c u (2 * k + 6)) (used u k) (getD c (2 * k + 6) 0)) (used u k) (getD c (2 * k + 7) 0)
+  one-more : (n : ℕ) → unusedIsZero c u (suc n) ≡ stillZero (unusedIsZero c u n) (wordUsed u n) (getD c n 0)
   unfolding unusedIsZero
-  float-zero k h =
-      let a : 2 * k + 6 + 2 ≡ suc (suc (2 * k + 6)) = omega arith in
-      let b : 2 * k + 7 ≡ suc (2 * k + 6) = omega arith in
-      let x : wordUsed u (2 * k + 6) ≡ used u k = float-used u (2 * k + 6) (omega arith) (omega arith) ∙ ap (used u) (omega arith) in
-      let y : wordUsed u (suc (2 * k + 6)) ≡ used u k = float-used u (suc (2 * k + 6)) (omega arith) (omega arith) ∙ ap (used u) (omega arith) in
-      rw (a, b) (unfold unusedIsZero in rw (x, y))
+  one-more n = refl
+
+  -- six words on: triple q, but for the one that is used by parts
+  word-of : (q j r : ℕ) → q < 38 → r < 6 → j ≡ 6 * q + 6 + r → wordUsed u j ≡ tripleUsed u q
+  unfolding used
+  word-of q j r h b e =
+      float-used u j (omega arith) (omega arith)
+      ∙ (let k : (j - 6) / 2 / 3 ≡ q = omega arith in rw k (rw (ne-eqb q 38 (λ (z : q ≡ 38). omega arith))))
+
+  pub triple-zero : (q : ℕ) → q < 38 → unusedIsZero c u (6 * (q + 1) + 6) ≡ sixZero c (6 * q + 6) (tripleUsed u q) (unusedIsZero c u (6 * q + 6))
+  unfolding sixZero
+  triple-zero q h =
+      let n = 6 * q + 6 in
+      let z : 6 * (q + 1) + 6 ≡ suc (suc (suc (suc (suc (suc n))))) = omega arith in
+      let a : n + 1 ≡ suc n = omega arith in
+      let b : n + 2 ≡ suc (suc n) = omega arith in
+      let d : n + 3 ≡ suc (suc (suc n)) = omega arith in
+      let e : n + 4 ≡ suc (suc (suc (suc n))) = omega arith in
+      let f : n + 5 ≡ suc (suc (suc (suc (suc n)))) = omega arith in
+      ap (unusedIsZero c u) z
+      ∙ (rw (a, b, d, e, f) (rw (one-more (suc (suc (suc (suc (suc n))))), one-more (suc (suc (suc (suc n)))), one-more (suc (suc (suc n))), one-more (suc (suc n)), one-more (suc n), one-more n, word-of q n 0 h (omega arith) (omega arith), word-of q (suc n) 1 h (omega arith) (omega arith), word-of q (suc (suc n)) 2 h (omega arith) (omega arith), word-of q (suc (suc (suc n))) 3 h (omega arith) (omega arith), word-of q (suc (suc (suc (suc n)))) 4 h (omega arith) (omega arith), word-of q (suc (suc (suc (suc (suc n))))) 5 h (omega arith) (omega arith))))
+
+  middle-zero : unusedIsZero c u 240 ≡ middleZero c u (unusedIsZero c u 234)
+  unfolding unusedIsZero wordUsed used middleZero
+  middle-zero = refl
+
+  -- the last two triples are used
+  pub floats-zero : unusedIsZero c u 252 ≡ middleZero c u (unusedIsZero c u 234)
+  unfolding unusedIsZero wordUsed used tripleUsed
+  floats-zero =
+      used-passes _ (getD c 251 0)
+      ∙ used-passes _ (getD c 250 0)
+      ∙ used-passes _ (getD c 249 0)
+      ∙ used-passes _ (getD c 248 0)
+      ∙ used-passes _ (getD c 247 0)
+      ∙ used-passes _ (getD c 246 0)
+      ∙ used-passes _ (getD c 245 0)
+      ∙ used-passes _ (getD c 244 0)
+      ∙ used-passes _ (getD c 243 0)
+      ∙ used-passes _ (getD c 242 0)
+      ∙ used-passes _ (getD c 241 0)
+      ∙ used-passes _ (getD c 240 0)
+      ∙ middle-zero
 
   -- the counts are used
   pub counts-zero : unusedIsZero c u 258 ≡ unusedIsZero c u 252
@@ -61,10 +96,6 @@ module _ (c : List ℕ) (u : Uses) where
       ∙ used-passes _ (getD c 254 0)
       ∙ used-passes _ (getD c 253 0)
       ∙ used-passes _ (getD c 252 0)
-
-  one-more : (n : ℕ) → unusedIsZero c u (suc n) ≡ stillZero (unusedIsZero c u n) (wordUsed u n) (getD c n 0)
-  unfolding unusedIsZero
-  one-more n = refl
 
   pub rest-zero : (n : ℕ) → restZero c (unusedIsZero c u 252) n ≡ unusedIsZero c u (n + 258)
   unfolding restZero

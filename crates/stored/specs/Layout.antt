@@ -69,19 +69,22 @@ placeUsed u i = leb (u .from) i && leb i (u .last)
 unfoldable pub accelerationUsed : Uses → ℕ → Bool
 accelerationUsed u i = cond (eqb i 4) (u .epoch) (leb (u .since) i && ltb i (u .until))
 
+-- triple q, as `triplesOf` has them
+unfoldable pub tripleUsed : Uses → ℕ → Bool
+tripleUsed u q =
+    cond (ltb q 9) (placeUsed u q)  -- positions of the points
+    (cond (ltb q 18) (placeUsed u (q - 9))  -- velocities of the points
+    (cond (ltb q 27) (accelerationUsed u (q - 18))  -- accelerations
+    (cond (ltb q 30) (ltb (q - 27) (u .slopes))  -- slopes
+    (cond (ltb q 32) (u .state)  -- the newest point's position and velocity
+    (cond (ltb q 34) (u .sums)  -- s and S
+    (cond (ltb q 36) (u .trial)  -- the open step's end
+    (cond (ltb q 38) (u .fixed)  -- FA and FB
+    true)))))))  -- settings, start, end and step
+
+-- float k: triple 38 alone is used by parts, the largest change and acceleration, and the clock
 unfoldable pub used : Uses → ℕ → Bool
-used u k =
-    cond (ltb k 27) (placeUsed u (k / 3))  -- positions of the points
-    (cond (ltb k 54) (placeUsed u ((k - 27) / 3))  -- velocities of the points
-    (cond (ltb k 81) (accelerationUsed u ((k - 54) / 3))  -- accelerations
-    (cond (ltb k 90) (ltb ((k - 81) / 3) (u .slopes))  -- slopes
-    (cond (ltb k 96) (u .state)  -- the newest point's position and velocity
-    (cond (ltb k 102) (u .sums)  -- s and S
-    (cond (ltb k 108) (u .trial)  -- the open step's end
-    (cond (ltb k 114) (u .fixed)  -- FA and FB
-    (cond (ltb k 116) (u .widest)  -- the largest change and acceleration
-    (cond (ltb k 117) (u .clock)  -- the clock
-    true)))))))))  -- settings, start, end and step
+used u k = cond (eqb (k / 3) 38) (cond (ltb k 116) (u .widest) (u .clock)) (tripleUsed u (k / 3))
 
 unfoldable pub triplesOf : Body → List Triple
 triplesOf b =

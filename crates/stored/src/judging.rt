@@ -5,7 +5,7 @@ ghost use mathlib.Core.Bool.{true};
 ghost use Prim.Native.Nat.{_<_};
 ghost use Rattle.run.specs.Waiting.{waitsAt};
 ghost use Rattle.stored.specs.Layout.{usesOf};
-ghost use Rattle.stored.specs.Taken.{floatAt, tripleAt, triplesIn, countsAt, bodyFrom, isKnown, runOf, stillZero, unusedIsZero};
+ghost use Rattle.stored.specs.Taken.{floatAt, tripleAt, triplesIn, countsAt, bodyFrom, isKnown, runOf, stillZero, sixZero, middleZero, unusedIsZero};
 use crate::layout;
 use crate::layout::Uses;
 use run::Body;
@@ -207,19 +207,42 @@ fn is_head_zero(c: &[u32; 504], u: Uses) -> bool
     still_zero(index, u.stage, c[3])
 }
 
-// Both words of each float.
+// The six words from word j on.
+fn are_six_zero(c: &[u32; 504], j: usize, used: bool, zero: bool) -> bool
+    requires { ⌜ j < 498 ⌝ }
+    ensures { λ b. ⌜ b ≡ sixZero (now (c .entry)) j used zero ⌝ }
+{
+    let one = still_zero(zero, used, c[j]);
+    let two = still_zero(one, used, c[j + 1]);
+    let three = still_zero(two, used, c[j + 2]);
+    let four = still_zero(three, used, c[j + 3]);
+    let five = still_zero(four, used, c[j + 4]);
+    still_zero(five, used, c[j + 5])
+}
+
+// Triple 38: the largest change and acceleration, and the clock.
+fn is_middle_zero(c: &[u32; 504], u: Uses, zero: bool) -> bool
+    ensures { λ b. ⌜ b ≡ middleZero (now (c .entry)) u zero ⌝ }
+{
+    let one = still_zero(zero, u.widest, c[234]);
+    let two = still_zero(one, u.widest, c[235]);
+    let three = still_zero(two, u.widest, c[236]);
+    let four = still_zero(three, u.widest, c[237]);
+    let five = still_zero(four, u.clock, c[238]);
+    still_zero(five, u.clock, c[239])
+}
+
+// Triple after triple; the last two are always used.
 fn are_floats_zero(c: &[u32; 504], u: Uses) -> bool
     ensures { λ b. ⌜ b ≡ unusedIsZero (now (c .entry)) u 252 ⌝ }
 {
     let mut zero = is_head_zero(c, u);
-    let mut k = 0usize;
-    while k < 123 {
-        let used = layout::is_used(u, k);
-        let lower = still_zero(zero, used, c[2 * k + 6]);
-        zero = still_zero(lower, used, c[2 * k + 7]);
-        k += 1;
+    let mut q = 0usize;
+    while q < 38 {
+        zero = are_six_zero(c, 6 * q + 6, layout::triple_used(u, q), zero);
+        q += 1;
     }
-    zero
+    is_middle_zero(c, u, zero)
 }
 
 // What a waiting point does not use is zero. The counts are always used, and no word after them is.

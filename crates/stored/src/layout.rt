@@ -1,7 +1,7 @@
 // SPDX-License-Identifier: MIT OR Apache-2.0
 // The layout: which floats of a run stand where, and which of them a waiting point uses.
 ghost use mathlib.Core.Path.{_≡_};
-ghost use Rattle.stored.specs.Layout.{nothingUsed, upToEpoch, usesOf, placeUsed, accelerationUsed, used, triplesOf};
+ghost use Rattle.stored.specs.Layout.{nothingUsed, upToEpoch, usesOf, placeUsed, accelerationUsed, tripleUsed, used, triplesOf};
 use run::Body;
 use run::waiting;
 use run::waiting::Waiting;
@@ -149,41 +149,48 @@ fn acceleration_used(u: Uses, i: usize) -> bool
     i < u.until as usize
 }
 
+// Whether triple q is used; of triple 38 `is_used` tells.
+pub fn triple_used(u: Uses, q: usize) -> bool
+    ensures { λ b. ⌜ b ≡ tripleUsed u q ⌝ }
+{
+    if q < 9 {
+        return place_used(u, q);
+    }
+    if q < 18 {
+        return place_used(u, q - 9);
+    }
+    if q < 27 {
+        return acceleration_used(u, q - 18);
+    }
+    if q < 30 {
+        return q - 27 < u.slopes as usize;
+    }
+    if q < 32 {
+        return u.state;
+    }
+    if q < 34 {
+        return u.sums;
+    }
+    if q < 36 {
+        return u.trial;
+    }
+    if q < 38 {
+        return u.fixed;
+    }
+    true
+}
+
 // Whether float k is used.
 pub fn is_used(u: Uses, k: usize) -> bool
     ensures { λ b. ⌜ b ≡ used u k ⌝ }
 {
-    if k < 27 {
-        return place_used(u, k / 3);
-    }
-    if k < 54 {
-        return place_used(u, (k - 27) / 3);
-    }
-    if k < 81 {
-        return acceleration_used(u, (k - 54) / 3);
-    }
-    if k < 90 {
-        return (k - 81) / 3 < u.slopes as usize;
-    }
-    if k < 96 {
-        return u.state;
-    }
-    if k < 102 {
-        return u.sums;
-    }
-    if k < 108 {
-        return u.trial;
-    }
-    if k < 114 {
-        return u.fixed;
-    }
-    if k < 116 {
-        return u.widest;
-    }
-    if k < 117 {
+    if k / 3 == 38 {
+        if k < 116 {
+            return u.widest;
+        }
         return u.clock;
     }
-    true
+    triple_used(u, k / 3)
 }
 
 // The run's floats, three by three.

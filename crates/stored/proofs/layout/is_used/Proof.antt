@@ -1,70 +1,21 @@
 -- `is_used`.
 use borrow.Author.Needs.{needs}
-use borrow.Author.Tests.{le-ltb, lt-ltb}
+use borrow.Author.Tests.{eq-eqb, ne-eqb, le-ltb, lt-ltb}
 use Rattle.stored.specs.Layout.{used}
 use Rattle.stored.proofs.layout.is_used.Statement.{statement}
 use Rattle.stored.proofs.layout.is_used.Tie as tie
 
 returns : tie.Need-returns
 unfolding used
-returns c = simp (c .place-used .ensures, lt-ltb _ _ (c .before .if1 .taken))
+returns c = simp (lt-ltb _ _ (c .if2 .taken), eq-eqb _ _ (c .before .if1 .taken))
 
 returns-2 : tie.Need-returns-2
 unfolding used
-returns-2 c = simp (c .place-used2 .ensures, lt-ltb _ _ (c .before .if2 .taken), le-ltb _ _ (c .before .before .if1 .left))
+returns-2 c = simp (le-ltb _ _ (c .if2 .left), eq-eqb _ _ (c .before .if1 .taken))
 
 returns-3 : tie.Need-returns-3
 unfolding used
-returns-3 c = simp (c .acceleration-used .ensures, lt-ltb _ _ (c .before .if3 .taken), le-ltb _ _ (c .before .before .if2 .left), le-ltb _ _ (c .before .before .before .if1 .left))
-
-returns-4 : tie.Need-returns-4
-unfolding used
-returns-4 c = simp (lt-ltb _ _ (c .before .if4 .taken), le-ltb _ _ (c .before .before .if3 .left), le-ltb _ _ (c .before .before .before .if2 .left), le-ltb _ _ (c .before .before .before .before .if1 .left))
-
-returns-5 : tie.Need-returns-5
-unfolding used
-returns-5 c = simp (lt-ltb _ _ (c .if5 .taken), le-ltb _ _ (c .before .if4 .left), le-ltb _ _ (c .before .before .if3 .left), le-ltb _ _ (c .before .before .before .if2 .left), le-ltb _ _ (c .before .before .before .before .if1 .left))
-
-returns-6 : tie.Need-returns-6
-unfolding used
-returns-6 c = simp (lt-ltb _ _ (c .if6 .taken), le-ltb _ _ (c .before .if5 .left), le-ltb _ _ (c .before .before .if4 .left), le-ltb _ _ (c .before .before .before .if3 .left), le-ltb _ _ (c .before .before .before .before .if2 .left), le-ltb _ _ (c .before .before .before .before .before .if1 .left))
-
-returns-7 : tie.Need-returns-7
-unfolding used
-returns-7 c = simp (lt-ltb _ _ (c .if7 .taken), le-ltb _ _ (c .before .if6 .left), le-ltb _ _ (c .before .before .if5 .left), le-ltb _ _ (c .before .before .before .if4 .left), le-ltb _ _ (c .before .before .before .before .if3 .left), le-ltb _ _ (c .before .before .before .before .before .if2 .left), le-ltb _ _ (c .before .before .before .before .before .before .if1 .left))
-
-returns-8 : tie.Need-returns-8
-unfolding used
-returns-8 c = simp (lt-ltb _ _ (c .if8 .taken), le-ltb _ _ (c .before .if7 .left), le-ltb _ _ (c .before .before .if6 .left), le-ltb _ _ (c .before .before .before .if5 .left), le-ltb _ _ (c .before .before .before .before .if4 .left), le-ltb _ _ (c .before .before .before .before .before .if3 .left), le-ltb _ _ (c .before .before .before .before .before .before .if2 .left), le-ltb _ _ (c .before .before .before .before .before .before .before .if1 .left))
-
-returns-9 : tie.Need-returns-9
-unfolding used
-returns-9 c = simp (lt-ltb _ _ (c .if9 .taken), le-ltb _ _ (c .before .if8 .left), le-ltb _ _ (c .before .before .if7 .left), le-ltb _ _ (c .before .before .before .if6 .left), le-ltb _ _ (c .before .before .before .before .if5 .left), le-ltb _ _ (c .before .before .before .before .before .if4 .left), le-ltb _ _ (c .before .before .before .before .before .before .if3 .left), le-ltb _ _ (c .before .before .before .before .before .before .before .if2 .left), le-ltb _ _ (c .before .before .before .before .before .before .before .before .if1 .left))
-
-returns-10 : tie.Need-returns-10
-unfolding used
-returns-10 c = simp (lt-ltb _ _ (c .if10 .taken), le-ltb _ _ (c .before .if9 .left), le-ltb _ _ (c .before .before .if8 .left), le-ltb _ _ (c .before .before .before .if7 .left), le-ltb _ _ (c .before .before .before .before .if6 .left), le-ltb _ _ (c .before .before .before .before .before .if5 .left), le-ltb _ _ (c .before .before .before .before .before .before .if4 .left), le-ltb _ _ (c .before .before .before .before .before .before .before .if3 .left), le-ltb _ _ (c .before .before .before .before .before .before .before .before .if2 .left), le-ltb _ _ (c .before .before .before .before .before .before .before .before .before .if1 .left))
-
-returns-11 : tie.Need-returns-11
-unfolding used
-returns-11 c = simp (le-ltb _ _ (c .if10 .left), le-ltb _ _ (c .before .if9 .left), le-ltb _ _ (c .before .before .if8 .left), le-ltb _ _ (c .before .before .before .if7 .left), le-ltb _ _ (c .before .before .before .before .if6 .left), le-ltb _ _ (c .before .before .before .before .before .if5 .left), le-ltb _ _ (c .before .before .before .before .before .before .if4 .left), le-ltb _ _ (c .before .before .before .before .before .before .before .if3 .left), le-ltb _ _ (c .before .before .before .before .before .before .before .before .if2 .left), le-ltb _ _ (c .before .before .before .before .before .before .before .before .before .if1 .left))
+returns-3 c = simp (c .triple-used .ensures, ne-eqb _ _ (c .before .if1 .left))
 
 pub is-used-spec : {M : Type 1} → statement M
-is-used-spec =
-    tie.close
-    (tie.spec
-    (λ c κs. search needs)
-    returns
-    (λ c κs. search needs)
-    returns-2
-    (λ c κs. search needs)
-    returns-3
-    (λ c. search needs)
-    returns-4
-    returns-5
-    returns-6
-    returns-7
-    returns-8
-    returns-9
-    returns-10
-    returns-11)
+is-used-spec = tie.close (tie.spec returns returns-2 (λ c κs. search needs) returns-3)
