@@ -4,6 +4,7 @@
 #define BENCH_H
 
 #include "gauss_jackson.h"
+#include "stored_names.h"
 
 #include <stdbool.h>
 
@@ -35,5 +36,9 @@ typedef struct reading {
 uint32_t module_read(const reading *reading, bool batch);
 uint32_t plain_read(const reading *reading, bool batch);
 uint32_t library_read(const reading *reading, bool batch);
+
+/* A run put away in a stored form, and taken up from one: as gj_store and gj_load of the library. The module has no such thing. */
+uint32_t plain_store(const gj_run *run, uint8_t *out, size_t bytes);
+gj_reply plain_load(gj_run *run, const uint8_t *in, size_t bytes);
 
 #endif

@@ -1,6 +1,24 @@
 # SPDX-License-Identifier: MIT OR Apache-2.0
 # The parts of bench/run and bench/where: building, measuring, printing. $out is the folder of what is built.
 columns='module module-1 plain library'
+points='epoch survey pass step tail'
+objects='plain plain_read plain_open plain_stored library driver'
+
+# The objects of $objects, as files.
+object_files() { for part in $objects; do echo "$out/$part.o"; done; }
+
+# The columns that have a work: the module has no stored runs.
+columns_of() { case $1 in store-* | load-*) echo plain library ;; *) echo "$columns" ;; esac; }
+
+# Every work that the words name: store and load stand for themselves at each of the points.
+all_works() {
+    for word; do
+        case $word in
+        store | load) for point in $points; do echo "$word-$point"; done ;;
+        *) echo "$word" ;;
+        esac
+    done
+}
 
 # Tables A and B for the plain loop, out of the library's own source.
 write_tables() {
@@ -16,13 +34,13 @@ build_driver() {
     name=$1
     shift
     compile_over_module $out --crate-name module "$@" bench/module.rs -o "$out/lib$name.a"
-    link_rust $out/plain.o $out/plain_read.o $out/library.o $out/driver.o "$out/lib$name.a" "$library" -o "$out/driver-$name"
+    link_rust $(object_files) "$out/lib$name.a" "$library" -o "$out/driver-$name"
 }
 
 build_drivers() {
     need_module $out
     write_tables >$out/tables.h
-    for part in plain plain_read library driver; do
+    for part in $objects; do
         compile -O3 -I$out -Ibench -c bench/$part.c -o $out/$part.o
     done
     build_driver module
@@ -53,33 +71,43 @@ measure() { drive "$1" "$2" run >"$out/$1.$2"; }
 # takes some instructions more or less by how it lies.
 count() { drive "$1" "$2" env -i "$counter" -plugin "$out/count.so,to=$out/$1.$2.count" >/dev/null; }
 
+# Of the columns that have the work: each has what the first has.
 same_results() {
-    for column in module-1 plain library; do
-        module=$(cut -d' ' -f1,3 "$out/module.$1") other=$(cut -d' ' -f1,3 "$out/$column.$1")
-        [ "$module" = "$other" ] || { echo "$1: the results of $column are not the module's" >&2; exit 1; }
+    first=
+    for column in $(columns_of "$1"); do
+        results=$(cut -d' ' -f1,3 "$out/$column.$1")
+        [ -n "$first" ] || { first=$column wanted=$results; }
+        [ "$results" = "$wanted" ] || { echo "$1: the results of $column are not those of $first" >&2; exit 1; }
     done
 }
 
-# WORK OF FORM MODULE MODULE-1 PLAIN LIBRARY
+# WORK OF FORM MODULE MODULE-1 PLAIN LIBRARY, a column that has not the work being '-'
 print_row() {
-    awk -v work="$1" -v of="$2" -v form=" %10$3" -v a="$4" -v b="$5" -v c="$6" -v d="$7" 'BEGIN {
-        printf "%-14s %-21s" form form form form "   %.2f %.2f %.2f\n", work, of, a, b, c, d, d / a, d / b, d / c }'
+    awk -v work="$1" -v of="$2" -v form="%.$3" -v a="$4" -v b="$5" -v c="$6" -v d="$7" '
+        function cell(x) { return sprintf(" %10s", x == "-" ? x : sprintf(form, x)) }
+        function over(x) { return x == "-" ? x : sprintf("%.2f", d / x) }
+        BEGIN { printf "%-14s %-21s%s%s%s%s   %s %s %s\n", work, of, cell(a), cell(b), cell(c), cell(d), over(a), over(b), over(c) }'
 }
 
-seconds_row() {
-    seconds=$(for column in $columns; do cut -d' ' -f2 "$out/$column.$1"; done)
-    print_row "$1" seconds .3f $seconds
+# TELLER WORK: what it tells of each column, '-' of one that has not the work.
+of_each_column() {
+    for column in $columns; do
+        case " $(columns_of "$2") " in *" $column "*) "$1" "$column" "$2" ;; *) echo - ;; esac
+    done
 }
 
-# Instructions a COLUMN needs for an answer (or a time read) of a WORK, beyond what the driver itself takes.
+seconds_of() { cut -d' ' -f2 "$out/$1.$2"; }
+
+seconds_row() { print_row "$1" seconds 3f $(of_each_column seconds_of "$1"); }
+
+# Instructions a COLUMN needs for an answer (or a time read, or a call) of a WORK, beyond what the driver itself takes.
 per_answer() {
-    awk -v answers="$answers" 'NR == FNR { own += $2; next } { all += $2 } END { printf "%.3f", (all - own) / answers }' \
+    awk -v answers="$answers" 'NR == FNR { own += $2; next } { all += $2 } END { printf "%.3f\n", (all - own) / answers }' \
         "$out/none.$2.count" "$out/$1.$2.count"
 }
 
 count_row() {
-    for column in none $columns; do count "$column" "$1"; done
-    answers=$(cut -d' ' -f1 "$out/module.$1")
-    instructions=$(for column in $columns; do echo "$(per_answer "$column" "$1")"; done)
-    print_row "$1" "instructions/$answers" .1f $instructions
+    for column in none $(columns_of "$1"); do count "$column" "$1"; done
+    answers=$(cut -d' ' -f1 "$out/plain.$1")
+    print_row "$1" "instructions/$answers" 1f $(of_each_column per_answer "$1")
 }

@@ -1,9 +1,10 @@
 // SPDX-License-Identifier: MIT OR Apache-2.0
 //! 01's "Examples at the edges", run on the module: what 01's text and counting give beside what the module does.
+use crate::case::Case;
 use crate::cases::plain;
 use crate::force::{Source, V3};
 use crate::gauss_jackson::{GJDenseOutput, GJSolution, GaussJackson8};
-use crate::transcript::{number, Case};
+use crate::transcript::number;
 use numeris::ode::OdeError;
 use numeris::Vector;
 use std::io::{self, Write};

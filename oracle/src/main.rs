@@ -7,9 +7,11 @@
 //!   oracle cases SEED N     N random cases
 //!   oracle tables SEED N    N random tables, with times asked between their samples
 //!   oracle orbit            the orbit of examples/, by its bits
+mod case;
 mod cases;
 mod examples;
 mod force;
+mod list;
 mod orbit;
 mod random;
 mod tables;
@@ -26,7 +28,7 @@ fn main() -> io::Result<()> {
     match words[..] {
         ["run"] => transcript::run(io::stdin().lock(), &mut out)?,
         ["examples"] => examples::print(&mut out)?,
-        ["list"] => cases::list(&mut out)?,
+        ["list"] => list::print(&mut out)?,
         ["orbit"] => orbit::print(&mut out)?,
         ["cases", seed, count] => cases::random(number(seed), number(count), &mut out)?,
         ["tables", seed, count] => tables::random(number(seed), number(count), &mut out)?,

@@ -1,29 +1,25 @@
 // SPDX-License-Identifier: MIT OR Apache-2.0
-//! Cases in, transcripts out: the format that `crates/replay` speaks too.
-use crate::force::{Force, Source, NAMES, V3};
-use crate::gauss_jackson::{GJDenseOutput, GJSettings, GaussJackson8};
+//! Cases in, transcripts out: the format that `crates/replay` speaks too. A line is words between blanks; a float is the sixteen hex digits of
+//! its bits, a count is one to ten decimal digits; a line that begins with `#` is passed over.
+//!
+//!   case NAME t0 tf h C tol S tol MAX_STEPS SAMPLES r0 v0 FORCE p     C and S are the passes of corrector and startup, each with its
+//!                                                                     tolerance; SAMPLES is 0 or 1; r0 and v0 are three floats, p four
+//!   case ... away N          the same; the run is put away and taken up before the N-th answer, the 2N-th and so on, N being 1 or more
+//!   final ...                as `case`, answered by its end alone
+//!   table NAME SAMPLES..     ten floats a sample
+//!   at t                     a time between the samples of the last case or table
+//!   batch t..                several
+//!
+//! What comes back: `case NAME`, `ask` with number, t, r, v for each question, `sample` with number and ten floats, `done` with t, r, v, evals,
+//! steps, startup_iters, or `refused` with 01's number; `interp` with r and v; `bad line N` for any other line. Every NaN is written `nan`.
+//! The module cannot put a run away, and has no need to: with and without `away` the transcript is the same, by W-201.
+use crate::case::{read_float, Case};
+use crate::force::{Source, V3};
+use crate::gauss_jackson::{GJDenseOutput, GaussJackson8};
 use numeris::ode::OdeError;
 use std::io::{self, BufRead, Write};
 
 pub type Samples = GJDenseOutput<f64, 3>;
-
-#[derive(Clone, Debug)]
-pub struct Case {
-    pub name: String,
-    pub t0: f64,
-    pub tf: f64,
-    pub h: f64,
-    pub max_corrector: usize,
-    pub corrector_tol: f64,
-    pub max_startup: usize,
-    pub startup_tol: f64,
-    pub max_steps: usize,
-    pub samples: bool,
-    pub r0: [f64; 3],
-    pub v0: [f64; 3],
-    pub force: Force,
-    pub p: [f64; 4],
-}
 
 /// Sixteen hex digits of the bits; every NaN is `nan`.
 pub fn hex(x: f64) -> String {
@@ -52,80 +48,7 @@ fn three(v: &V3) -> [f64; 3] {
     [v[0], v[1], v[2]]
 }
 
-fn read_float(word: &str) -> Option<f64> {
-    let shaped = word.len() == 16 && word.bytes().all(|b| b.is_ascii_hexdigit());
-    shaped.then(|| f64::from_bits(u64::from_str_radix(word, 16).unwrap()))
-}
-
-/// At most ten decimal digits.
-fn read_count(word: &str) -> Option<usize> {
-    let shaped = (1..=10).contains(&word.len()) && word.bytes().all(|b| b.is_ascii_digit());
-    shaped.then(|| word.parse().unwrap())
-}
-
 impl Case {
-    /// The words after `case`.
-    pub fn read(words: &[&str]) -> Option<Case> {
-        if words.len() != 21 {
-            return None;
-        }
-        let f = |i: usize| read_float(words[i]);
-        let n = |i: usize| read_count(words[i]);
-        let triple = |i: usize| Some([f(i)?, f(i + 1)?, f(i + 2)?]);
-        Some(Case {
-            name: words[0].to_string(),
-            t0: f(1)?,
-            tf: f(2)?,
-            h: f(3)?,
-            max_corrector: n(4)?,
-            corrector_tol: f(5)?,
-            max_startup: n(6)?,
-            startup_tol: f(7)?,
-            max_steps: n(8)?,
-            samples: match words[9] {
-                "0" => false,
-                "1" => true,
-                _ => return None,
-            },
-            r0: triple(10)?,
-            v0: triple(13)?,
-            force: NAMES.iter().find(|(name, _)| *name == words[16])?.1,
-            p: [f(17)?, f(18)?, f(19)?, f(20)?],
-        })
-    }
-
-    pub fn line(&self) -> String {
-        let bits = |xs: &[f64]| xs.iter().map(|x| format!(" {:016x}", x.to_bits())).collect::<String>();
-        let force = NAMES.iter().find(|(_, f)| *f as u8 == self.force as u8).unwrap().0;
-        format!(
-            "case {}{} {}{} {}{} {} {}{}{} {}{}",
-            self.name,
-            bits(&[self.t0, self.tf, self.h]),
-            self.max_corrector,
-            bits(&[self.corrector_tol]),
-            self.max_startup,
-            bits(&[self.startup_tol]),
-            self.max_steps,
-            self.samples as u8,
-            bits(&self.r0),
-            bits(&self.v0),
-            force,
-            bits(&self.p)
-        )
-    }
-
-    pub fn settings(&self) -> GJSettings<f64> {
-        GJSettings {
-            h: self.h,
-            max_corrector_iters: self.max_corrector,
-            corrector_tol: self.corrector_tol,
-            max_startup_iters: self.max_startup,
-            startup_tol: self.startup_tol,
-            max_steps: self.max_steps,
-            dense_output: self.samples,
-        }
-    }
-
     /// Runs the module, prints the transcript, whole or its end alone, and hands back the samples of a finished run.
     fn play(&self, whole: bool, out: &mut impl Write) -> io::Result<Option<Samples>> {
         writeln!(out, "{} {}", if whole { "case" } else { "final" }, self.name)?;

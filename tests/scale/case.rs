@@ -12,12 +12,19 @@ pub struct Case {
     pub v0: Triple,
     pub force: Force,
     pub p: [f64; 4],
+    /// The run is put away and taken up before every so many-th answer; 0 is never.
+    pub away: usize,
 }
 
 impl Case {
     pub fn read(line: &str) -> Option<Case> {
         let words: Vec<&str> = line.split(' ').collect();
-        if words.len() != 22 || words[0] != "case" {
+        let away = match words[..] {
+            [_, .., "away", every] if words.len() == 24 => every.parse::<usize>().ok().filter(|n| *n > 0)?,
+            _ if words.len() == 22 => 0,
+            _ => return None,
+        };
+        if words[0] != "case" {
             return None;
         }
         let f = |i: usize| u64::from_str_radix(words[i], 16).ok().map(f64::from_bits);
@@ -39,6 +46,7 @@ impl Case {
             v0: Triple { x: f(14)?, y: f(15)?, z: f(16)? },
             force: NAMES.iter().find(|(name, _)| *name == words[17])?.1,
             p: [f(18)?, f(19)?, f(20)?, f(21)?],
+            away,
         })
     }
 

@@ -1,8 +1,10 @@
 // SPDX-License-Identifier: MIT OR Apache-2.0
 //! A case on the library, question by question beside the module's record.
+use crate::away::{self, Away};
 use crate::case::Case;
 use crate::check::{all_same, holds, same, Verdict};
 use crate::counting;
+use crate::judge::Judge;
 use crate::random::Random;
 use crate::raw::{self, Reply, Run, Settings, Triple};
 use crate::record::{Asked, Record};
@@ -19,6 +21,7 @@ pub struct Line<'a> {
     pub room: Room,
     /// Samples that stand in the room.
     pub written: usize,
+    pub away: Away,
 }
 
 /// The samples that a call wrote: from which on, and how many.
@@ -57,6 +60,7 @@ pub fn check_ended(run: &mut Run, rng: &mut Random, tally: &mut Tally) -> Verdic
     tally.refused[7] += 1;
     let both = is_refused(&told, 7) && is_refused(&open_question(run), 7);
     holds(both && before.0 == run.0, "an ended run does more than refuse by 7")?;
+    away::store_any(run, rng, tally)?;
     room.whole_is_as_expected()
 }
 
@@ -76,7 +80,7 @@ fn room_for(case: &Case, record: &Record, rng: &mut Random) -> Room {
 }
 
 impl Line<'_> {
-    fn asks(&self, reply: &Reply, n: usize) -> Verdict {
+    pub fn asks(&self, reply: &Reply, n: usize) -> Verdict {
         let plain = reply.kind == 0 && reply.refusal == 0 && reply.evals | reply.steps | reply.startup_iters == 0;
         holds(plain && reply.number == n as u16, format_args!("question {n}: kind {}, number {}", reply.kind, reply.number))?;
         all_same(format_args!("question {n}"), &numbers(reply), &self.record.asked[n].at)?;
@@ -177,7 +181,7 @@ fn over_a_limit(case: &Case, rng: &mut Random, tally: &mut Tally) -> Verdict {
     check_ended(&mut run, rng, tally)
 }
 
-pub fn follow(case: &Case, rng: &mut Random, tally: &mut Tally) -> Verdict {
+pub fn follow(case: &Case, judge: &mut Judge, rng: &mut Random, tally: &mut Tally) -> Verdict {
     if rng.once_in(4) {
         over_a_limit(case, rng, tally)?;
     }
@@ -190,11 +194,14 @@ pub fn follow(case: &Case, rng: &mut Random, tally: &mut Tally) -> Verdict {
         return check_ended(&mut run, rng, tally);
     }
     let room = room_for(case, &record, rng);
-    let mut line = Line { case, record, run, room, written: 0 };
-    for n in 0..line.record.asked.len() {
+    let mut line = Line { case, record, run, room, written: 0, away: Away::new(case.away, rng) };
+    let mut n = 0;
+    while n < line.record.asked.len() {
         line.asks(&reply, n)?;
         tamper::before_an_answer(&mut line, n, rng, tally)?;
+        n = away::before_an_answer(&mut line, n, judge, rng, tally)?;
         reply = line.answers(n, rng, tally)?;
+        n += 1;
     }
     tally.questions += line.record.asked.len() as u64;
     line.ends(&reply, rng, tally)

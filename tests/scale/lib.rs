@@ -1,6 +1,7 @@
 // SPDX-License-Identifier: MIT OR Apache-2.0
 //! The module and the library in one process, on the same cases: every question, sample, state, count and refusal, and every byte of the
-//! buffers, written and not written. Cases come on standard input, as `oracle cases` writes them; the tampering comes from a seed.
+//! buffers, written and not written; runs put away and taken up, and damaged forms, against a second writing of W-201. Cases come on standard
+//! input, as `oracle cases` writes them; the tampering comes from a seed.
 #[path = "../../oracle/src/force.rs"]
 mod force;
 #[path = "../../oracle/src/random.rs"]
@@ -8,58 +9,106 @@ mod random;
 #[path = "../../bindings/rust/src/raw.rs"]
 mod raw;
 
+mod away;
 #[cfg(feature = "dense")]
 mod between;
 mod case;
 mod check;
 mod counting;
+mod damage;
 mod follow;
+mod judge;
+mod layout;
+mod questions;
 mod record;
 mod room;
+mod stored;
 mod tally;
 mod tamper;
+mod tray;
 
 include!(concat!(env!("OUT_DIR"), "/module.rs"));
 
 use case::Case;
+use judge::Judge;
 use random::Random;
 use std::io::BufRead;
 use std::time::Instant;
 use tally::Tally;
 
+/// What is asked for: so many cases, or so many damaged forms.
+struct Asked {
+    forms: bool,
+    count: u64,
+}
+
+impl Asked {
+    /// For forms, some damaged ones at each storing; else one at every few storings.
+    fn judge(&self) -> Judge {
+        if self.forms {
+            Judge::new(3, 1)
+        } else {
+            Judge::new(1, 4)
+        }
+    }
+
+    fn is_met(&self, tally: &Tally) -> bool {
+        if self.forms {
+            tally.forms.damaged >= self.count
+        } else {
+            tally.cases == self.count
+        }
+    }
+}
+
 /// One line of standard input; with a library that interpolates, a random table goes with every fourth case.
-fn take(line: &str, n: u64, rng: &mut Random, tally: &mut Tally) -> check::Verdict {
-    let case = Case::read(line).ok_or_else(|| "not a case".to_string())?;
-    follow::follow(&case, rng, tally)?;
+fn take(line: &str, forms: bool, judge: &mut Judge, rng: &mut Random, tally: &mut Tally) -> check::Verdict {
+    let mut case = Case::read(line).ok_or_else(|| "not a case".to_string())?;
+    if forms && case.away == 0 {
+        case.away = 1;
+    }
+    follow::follow(&case, judge, rng, tally)?;
     #[cfg(feature = "dense")]
-    if n % 4 == 0 {
+    if tally.cases % 4 == 0 {
         between::compare_random(rng, tally)?;
     }
-    tally.cases = n + 1;
+    tally.cases += 1;
     Ok(())
 }
 
-/// Compares so many cases, or as many as fit in so many seconds; 0 where all agree, 1 at the first that differs, 2 where cases are missing.
+fn end(tally: &Tally, seed: u64, spent: f64) -> i32 {
+    tally.print(seed, spent);
+    match tally.forms.every_kind_was_met() {
+        Ok(()) => 0,
+        Err(fault) => {
+            println!("{fault}");
+            1
+        }
+    }
+}
+
+/// Compares as many as are asked for, or as fit in so many seconds; 0 where all agree, 1 at the first that differs, 2 where cases are missing.
 #[no_mangle]
-pub extern "C" fn scale(count: u64, seed: u64, seconds: u64) -> i32 {
+pub extern "C" fn scale(forms: bool, count: u64, seed: u64, seconds: u64) -> i32 {
     let began = Instant::now();
+    let asked = Asked { forms, count };
+    let mut judge = asked.judge();
     let mut rng = Random(seed ^ 0x5ca1e);
     let mut tally = Tally::default();
     for (n, line) in std::io::stdin().lock().lines().enumerate() {
         let line = line.expect("standard input is text");
-        if let Err(fault) = take(&line, n as u64, &mut rng, &mut tally) {
+        if let Err(fault) = take(&line, forms, &mut judge, &mut rng, &mut tally) {
             println!("DIFFERS: {fault}\n{line}\n(case {n} of seed {seed})");
             return 1;
         }
         let spent = began.elapsed().as_secs_f64();
         if tally.cases % 10_000 == 0 {
-            println!("{} cases in {spent:.0} s", tally.cases);
+            println!("{} cases, {} damaged forms in {spent:.0} s", tally.cases, tally.forms.damaged);
         }
-        if tally.cases == count || spent >= seconds as f64 {
-            tally.print(seed, spent);
-            return 0;
+        if asked.is_met(&tally) || spent >= seconds as f64 {
+            return end(&tally, seed, spent);
         }
     }
-    println!("only {} cases came of {count}", tally.cases);
+    println!("only {} cases came, {} damaged forms; {count} were asked for", tally.cases, tally.forms.damaged);
     2
 }

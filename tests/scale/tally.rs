@@ -1,13 +1,52 @@
 // SPDX-License-Identifier: MIT OR Apache-2.0
 //! What was compared, counted.
+use crate::check::{holds, Verdict};
+
+/// Damaged forms, by what became of them.
+#[derive(Default)]
+pub struct Forms {
+    pub damaged: u64,
+    /// In the order of `Fault`.
+    pub refused: [u64; 8],
+    /// By the waiting point of the run that they load to.
+    pub taken: [u64; 9],
+    /// Of those taken: the damage left the form as it was; or there was a NaN pattern other than the one that is written.
+    pub unchanged: u64,
+    pub other_nan: u64,
+}
+
+/// From so many damaged forms on, each kind of verdict must be among them; and from so many, each waiting point among those taken.
+const ENOUGH: u64 = 4000;
+const ENOUGH_FOR_POINTS: u64 = 40_000;
+
+impl Forms {
+    fn print(&self) {
+        let (shape, content) = self.refused.split_at(3);
+        let sum = |all: &[u64]| all.iter().sum::<u64>();
+        let (ten, eleven, taken) = (sum(shape), sum(content), sum(&self.taken));
+        println!("  {} damaged forms: {ten} refused by 10, {eleven} by 11, {taken} taken", self.damaged);
+        println!("    10 (length, block number, check): {shape:?}");
+        println!("    11 (form number, waiting point, flag, unused content, made up): {content:?}");
+        println!("    taken, by waiting points 1 to 8: {:?}", &self.taken[1..]);
+        println!("    of these left as they were by the damage {}, with other NaN patterns {}", self.unchanged, self.other_nan);
+    }
+
+    pub fn every_kind_was_met(&self) -> Verdict {
+        let mut kinds = self.refused.iter().chain([&self.unchanged, &self.other_nan]);
+        holds(self.damaged < ENOUGH || kinds.all(|n| *n > 0), "of the damaged forms none met a kind of verdict")?;
+        let all_points = self.taken[1..].iter().all(|n| *n > 0);
+        holds(self.damaged < ENOUGH_FOR_POINTS || all_points, "no damaged form was taken at a waiting point")
+    }
+}
+
 #[derive(Default)]
 pub struct Tally {
     pub cases: u64,
     pub questions: u64,
     pub samples: u64,
     pub finished: u64,
-    /// By 01's number; those of interpolation too.
-    pub refused: [u64; 10],
+    /// By 01's and 02's number; those of interpolation, storing and loading too.
+    pub refused: [u64; 12],
     /// Answers given twice, the second time on a copy of the run and into another room.
     pub twins: u64,
     pub made_up: u64,
@@ -15,16 +54,22 @@ pub struct Tally {
     pub altered: u64,
     pub tables: u64,
     pub times: u64,
+    /// Runs put away and taken up in the middle of their line; and older forms taken up again.
+    pub away: u64,
+    pub older: u64,
+    pub forms: Forms,
 }
 
 impl Tally {
     pub fn print(&self, seed: u64, seconds: f64) {
         println!("{} cases equal in {seconds:.0} s, {:.0} a second (seed {seed})", self.cases, self.cases as f64 / seconds);
         println!("  {} questions, {} samples, {} finished states", self.questions, self.samples, self.finished);
-        let refused: Vec<String> = (1..10).map(|n| format!("{n}: {}", self.refused[n])).collect();
+        let refused: Vec<String> = (1..12).map(|n| format!("{n}: {}", self.refused[n])).collect();
         println!("  refusals by number: {}", refused.join(", "));
         println!("  {} answers given again on a copy into another room", self.twins);
         println!("  {} runs made up, {} altered within the counting", self.made_up, self.altered);
         println!("  {} tables, {} times between their samples", self.tables, self.times);
+        println!("  {} times put away and taken up, {} older forms taken up again", self.away, self.older);
+        self.forms.print();
     }
 }

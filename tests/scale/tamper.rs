@@ -1,5 +1,6 @@
 // SPDX-License-Identifier: MIT OR Apache-2.0
 //! What goes wrong in a caller's hands: stale numbers, damaged and short rooms, runs answered twice, runs made up.
+use crate::away;
 use crate::check::{all_same, holds, Verdict};
 use crate::counting::{self, places};
 use crate::follow::{answer, check_ended, is_refused, numbers, open_question, Due, Line};
@@ -108,6 +109,7 @@ fn made_up(run: &Run, rng: &mut Random, tally: &mut Tally) -> Verdict {
     let before = run.clone();
     let number = if rng.once_in(8) { rng.bits() as u16 } else { counting::number(&run) };
     let open = open_question(&run);
+    away::store_any(&run, rng, tally)?;
     let told = answer(&mut run, number, Triple { x: 1.0, y: -2.0, z: 3.0 }, &mut room);
     if !counting::is_sound(&before) {
         tally.made_up += 1;

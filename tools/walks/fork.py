@@ -134,7 +134,7 @@ class Fork(Forked, Frame):
     # ---- the exit
     def left(self):
         return [(f'l:{p.name}', self.token(p)) for p in self.refs] + [
-            ('res', f'‵ (fres γ-{self.lent.v} ({self.lent.row.row} .coded .code z-{self.lent.v}))'), (f'fin:{self.out.name}', f'‵ (finally f64 γ-{self.out.v} z-{self.out.v})')]
+            ('res', f'‵ (fres γ-{self.lent.v} ({self.lent.row.row} .coded .code z-{self.lent.v}))'), (f'fin:{self.out.name}', f'‵ (finally {self.out.row.row} γ-{self.out.v} z-{self.out.v})')]
 
     def exit(self):
         r, lent, out = self.result, self.lent, self.out
@@ -142,7 +142,7 @@ class Fork(Forked, Frame):
         c = Context([n for n, _ in self.left()])
         self.leaves(c, 'r', lambda p: f'z-{p.v}', 'e', lambda c, p: c.front('res', 'acc'))
         fact = self.fact(len(self.ways) - 1, f'z-{lent.v}', f'z-{out.v}')
-        statement = f'(r : {r.denotes}) (z-{lent.v} : {lent.row.denotes}) (z-{out.v} : List Float) → {fact} → length z-{out.v} ≡ length {out.v} → {r.is_of("r")} → ent 𝓤 (⋆ 𝓤 H A ({items})) (Post {r.value("r")})'
+        statement = f'(r : {r.denotes}) (z-{lent.v} : {lent.row.denotes}) (z-{out.v} : {out.inside()}) → {fact} → length z-{out.v} ≡ length {out.v} → {r.is_of("r")} → ent 𝓤 (⋆ 𝓤 H A ({items})) (Post {r.value("r")})'
         return self.exits(statement, f'r z-{lent.v} z-{out.v} e l-{out.v} is', items, c)
 
     # ---- the walk
@@ -218,7 +218,7 @@ class Fork(Forked, Frame):
 
     def calling(self, k, fact):
         way, tag = self.ways[k], self.ways[k].callee.tag
-        ends = product_of([self.lent.row.denotes if n == self.lent.name else 'List Float' if n == self.out.name else 'Unit {0}' for n in way.names()])
+        ends = product_of([self.lent.row.denotes if n == self.lent.name else self.out.inside() if n == self.out.name else 'Unit {0}' for n in way.names()])
         ghost, goes = (f'(to-{tag} l)', f'(goes-{tag} l {self.seeing.is_known()})') if 'look' in way.names() else (f'to-{tag}', f'goes-{tag}')
         return Call(way.callee, self.result, self.handed(k), self.held(k), ends, fact, self.lives(), ' ⊛ '.join([self.token(p) for p in self.refs] + ['‵ ftrue']), ghost=ghost, goes=goes)
 

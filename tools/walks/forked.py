@@ -1,6 +1,5 @@
 # SPDX-License-Identifier: MIT OR Apache-2.0
 """The code of a fork, as the walk's own copy of it: each way has its locals for the struct and the buffer that it hands on."""
-from params import FLOATS
 from parts import Part
 
 
@@ -21,7 +20,7 @@ class Forked:
         ref, to, both = self.lends(k)
         at, out = self.lent.local_at, self.out.local_at
         given = ''.join(f'copy (place {i} []) ∷ ' for i in self.handed(k))
-        return seqs([f'(assign (place {ref} []) (addrOf (place {at} (deref {self.lent.row.machine} ∷ []))))', f'(assign (place {to} []) (addrOf (place {out} (field 0 ∷ deref {FLOATS} ∷ []))))',
+        return seqs([f'(assign (place {ref} []) (addrOf (place {at} (deref {self.lent.row.machine} ∷ []))))', f'(assign (place {to} []) (addrOf (place {out} (field 0 ∷ deref {self.out.row.machine} ∷ []))))',
                      f'(assign (place {both} []) (aggregate (copy (place {to} []) ∷ copy (place {out} (field 1 ∷ [])) ∷ [])))', f'(call {self.ways[k].callee.key} ({given}[]) (place 0 []))'], 'return')
 
     def test_code(self, k):
@@ -31,7 +30,7 @@ class Forked:
     def code(self):
         types = [self.result.machine] + [p.local() for p in self.params] + [self.seen.machine]
         types += [self.args[i].row.machine if isinstance(self.args[i], Part) else '(tyInt w64)' for i in self.made] + ['tyBool']
-        types += [f'(tyRef erased mut (tyNamed ({self.lent.type}′.struct .name, [])))', f'(tyRef erased mut {FLOATS})', f'(τ-slice erased {FLOATS})'] * len(self.ways)
+        types += [f'(tyRef erased mut (tyNamed ({self.lent.type}′.struct .name, [])))', f'(tyRef erased mut {self.out.row.machine})', f'(τ-slice erased {self.out.row.machine})'] * len(self.ways)
         self.types, last = types, len(self.ways) - 1
         out = ['-- what is left once so many tests fail', f'abbrev rest-{last} : Code', f'rest-{last} = {self.way_code(last)}', '']
         for k in reversed(range(1, last)):

@@ -89,8 +89,9 @@ class Frame:
         for t in sorted(self.rows.named):
             out += [f'abbrev τ-{t} : Ty', f'τ-{t} = first-of ({t}′.the-row .mir)', '']
         out += ['abbrev τ-nine : Ty', 'τ-nine = tyArray τ-Triple 9', ''] if 'Triple' in self.rows.named else []
-        if any(p.kind == 'slice' for p in self.params):
-            out += ['abbrev τ-slice : Lifetime → Ty → Ty', 'τ-slice l τ = tyStruct (38 ∷ 91 ∷ 93 ∷ []) (tcons (tyRef l mut τ) (tcons (tyInt w64) tnil))', '']
+        for kind, how in (('slice', 'mut'), ('view', 'imm')):
+            if any(p.kind == kind for p in self.params):
+                out += [f'abbrev τ-{kind} : Lifetime → Ty → Ty', f'τ-{kind} l τ = tyStruct (38 ∷ 91 ∷ 93 ∷ []) (tcons (tyRef l {how} τ) (tcons (tyInt w64) tnil))', '']
         out += code + ['function-is : code.function ≡ walked-fn', 'function-is = refl', '']
         out += ['abbrev stayed : Stays (f.ended .signature .params) (f.ended .kept)', 'stayed = ' + tuple_of([p.stays(self.gives_lent) for p in self.params]), '']
         for g in self.callees():
@@ -150,7 +151,7 @@ class Frame:
 
     def leaves(self, c, told, ends, says, put_lent):
         """The steps at the exit: all that is left is what the contract says, of the result `told` and of what the references hold then."""
-        last = tuple_of([ends(p) if p in self.refs and p.kind != 'shared' else 'tt' for p in self.params])
+        last = tuple_of([ends(p) if p.kind in ('lent', 'slice') else 'tt' for p in self.params])
         same = tuple_of([f'l-{p.v}' if p.kind == 'slice' else 'tt' for p in self.params])
         c.say(f'suffices ! _ (ends-at 𝓤 H A f.ended stayed (f.clauses 𝓤 H A at-mem run-of) W {self.bound()} {self.result.value(told)} {told} {last} {same})', f'says ! {says}')
         c.add('tok', 'nothing !')
@@ -164,6 +165,8 @@ class Frame:
                 c.add('this', p.row.owned(p.v, f'{p.v}-is'))
             elif p.kind == 'slice':
                 c.front(f'fin:{p.name}', 'acc')
+            elif p.kind == 'view':
+                c.add('this', 'nothing !')
             else:
                 put_lent(c, p)
             c.say('fjoin !')
@@ -180,7 +183,7 @@ class Frame:
         for i, p in enumerate(ps):
             a = f'a{nth(i)}'
             given += [f'({a})'] if p.kind == 'plain' else [f'({a} .ptr .0)', f'({a} .ptr .1)', f'({a} .name)', f'({a} .now)']
-        given += [f'(are{nth(i)}' + (')' if p.kind == 'plain' else ' .0 .1)') for i, p in enumerate(ps) if p.kind in ('plain', 'slice')]
+        given += [f'(are{nth(i)}' + (')' if p.kind == 'plain' else ' .0 .1)') for i, p in enumerate(ps) if p.known()]
 
         def meetings(calls):
             return ' → '.join(f'Meeting 𝓤 ({calls} {g.key}) ({g.contract()} 𝓤 H A mem run-of)' for g in self.callees())

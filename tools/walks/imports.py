@@ -36,8 +36,8 @@ denote.Struct.Field: Field, array-field
 denote.Shadow: shadow
 denote.Builtin: bool, u8, u16, u32, u64, usize, f64
 denote.Ref: RefT, MutRef, ShrRef, ptr-vals, mut-tells, shr-tells
-denote.Slice: sliceVal, slice-vals, mut-slice-tells, MutSlice, Room, finally
-denote.Signature: plain
+denote.Slice: sliceVal, slice-vals, mut-slice-tells, shr-slice-tells, MutSlice, ShrSlice, Room, finally
+denote.Signature: plain, shrSliceOf
 denote.Steps: only, opens, closes, looks, shuts, owned, peeks, heard, nothing
 denote.Struct.Steps: spelt
 denote.Triple.Entry: onEntry
@@ -46,7 +46,7 @@ denote.Triple.Statement: Contract, Triple as Meeting
 denote.Triple.Call: calls-at
 denote.Triple.Clauses: ensured, lasts
 denote.Triple.Table: entered, cited
-denote.Triple.Walked: says, Stays, stay-ref, stay-none, stay-none-ref, gave-ref, gave-slice, walkOf, AllGo, goes-ref, goes-none, goes-none-ref, goes-gave-ref, goes-gave-slice, Walks, ends-at, walked, walk-meets
+denote.Triple.Walked: says, Stays, stay-ref, stay-none, stay-dropped, stay-none-ref, gave-ref, gave-slice, walkOf, AllGo, goes-ref, goes-none, goes-dropped, goes-none-ref, goes-gave-ref, goes-gave-slice, Walks, ends-at, walked, walk-meets
 denote.Exit: yes
 '''
 IMPORTS = [(line.split(': ')[0], line.split(': ')[1].split(', ')) for line in TEXT.strip().splitlines()]

@@ -4,26 +4,32 @@ import re
 from rows import nth
 from sources import Refused
 
-FLOATS = '(tyFloat binary64)'
+KINDS = (('&mut [', 'slice'), ('&mut ', 'lent'), ('&[', 'view'), ('&', 'shared'), ('', 'plain'))
+ELEMENTS = ('f64', 'u8')
 
 
 class Param:
-    """A parameter: plain, `lent` (&mut S), `shared` (&S) or a slice (&mut [f64])."""
+    """A parameter: plain, `lent` (&mut S), `shared` (&S), a `slice` (&mut [f64] or &mut [u8]) or a `view` (&[f64] or &[u8])."""
 
     def __init__(self, name, t, rows):
         self.name, self.v = name, f'v-{name}'
-        self.kind = 'slice' if t.startswith('&mut [') else 'lent' if t.startswith('&mut ') else 'shared' if t.startswith('&') else 'plain'
+        self.kind = next(kind for start, kind in KINDS if t.startswith(start))
         self.type = t.replace('&mut ', '').replace('&', '')
-        if self.kind == 'slice' and self.type != '[f64]':
-            raise Refused(f'the slice {t} is not covered: only &mut [f64] is.')
-        self.row = rows.of('f64' if self.kind == 'slice' else self.type)
+        self.has_elements = self.kind in ('slice', 'view')
+        if self.has_elements and self.type.strip('[]') not in ELEMENTS:
+            raise Refused(f'the slice {t} is not covered: its elements are {" or ".join(ELEMENTS)}.')
+        self.row = rows.of(self.type.strip('[]') if self.has_elements else self.type)
         self.life = self.local_at = None
 
     def cell(self):
         return f'b-{self.v} o-{self.v}'
 
+    def inside(self):
+        """What a value of it is, or of what it refers to."""
+        return f'List {self.row.denotes}' if self.has_elements else self.row.denotes
+
     def denotes(self):
-        return {'plain': self.row.denotes, 'slice': 'RefT (List Float)'}.get(self.kind, f'RefT {self.row.denotes}')
+        return self.inside() if self.kind == 'plain' else f'RefT ({self.inside()})' if self.has_elements else f'RefT {self.inside()}'
 
     def holds(self):
         """What the parameter is in the contract's terms."""
@@ -31,46 +37,58 @@ class Param:
 
     def value(self):
         at = f'(b-{self.v}, o-{self.v})'
-        return {'plain': self.row.value(self.v), 'slice': f'(sliceVal {at} (length {self.v}))'}.get(self.kind, f'(vptr b-{self.v} o-{self.v})')
+        if self.has_elements:
+            return f'(sliceVal {at} (length {self.v}))'
+        return self.row.value(self.v) if self.kind == 'plain' else f'(vptr b-{self.v} o-{self.v})'
 
-    def owns(self):
-        how = {'plain': self.row.row, 'slice': f'MutSlice (named {self.life}) κ-{self.v} f64', 'shared': f'ShrRef (named {self.life}) κ-{self.v} {self.row.row}'}
-        return how.get(self.kind, f'MutRef (named {self.life}) κ-{self.v} {self.row.row}')
+    def owns(self, life=None):
+        """Its type with what it owns; `life` is its lifetime's number for a callee."""
+        how = {'lent': 'MutRef', 'shared': 'ShrRef', 'slice': 'MutSlice', 'view': 'ShrSlice'}
+        return f'{how[self.kind]} (named {self.life if life is None else life}) κ-{self.v} {self.row.row}' if self.kind in how else self.row.row
 
     def local(self):
-        return {'plain': self.row.machine, 'slice': f'(τ-slice (named {self.life}) {FLOATS})',
+        return {'plain': self.row.machine, 'slice': f'(τ-slice (named {self.life}) {self.row.machine})', 'view': f'(τ-view (named {self.life}) {self.row.machine})',
                 'shared': f'(tyRef (named {self.life}) imm (tyNamed ({self.type}′.struct .name, [])))'}.get(
                     self.kind, f'(tyRef (named {self.life}) mut (tyNamed ({self.type}′.struct .name, [])))')
 
     def binds(self):
         if self.kind == 'plain':
-            return f'({self.v} : {self.row.denotes})'
-        inside = 'List Float' if self.kind == 'slice' else self.row.denotes
-        return f'(b-{self.v} o-{self.v} : ℕ) (γ-{self.v} : GName) ({self.v} : {inside})'
+            return f'({self.v} : {self.inside()})'
+        return f'(b-{self.v} o-{self.v} : ℕ) (γ-{self.v} : GName) ({self.v} : {self.inside()})'
 
     def known(self):
-        return {'plain': f'({self.v}-is : {self.row.is_of(self.v)})', 'slice': f'({self.v}-room : Room f64 (length {self.v}))'}.get(self.kind, '')
+        if self.has_elements:
+            return f'({self.v}-room : Room {self.row.row} (length {self.v}))'
+        return f'({self.v}-is : {self.row.is_of(self.v)})' if self.kind == 'plain' else ''
 
     def fits(self):
         """Why its value may stand in its local."""
-        return {'plain': self.row.typed(self.v, f'{self.v}-is'), 'slice': f'(tt, (tt, (record {{ fits = {self.v}-room .0 }}, tt)))'}.get(self.kind, '(tt, tt)')
+        if self.has_elements:
+            return f'(tt, (tt, (record {{ fits = {self.v}-room .0 }}, tt)))'
+        return self.row.typed(self.v, f'{self.v}-is') if self.kind == 'plain' else '(tt, tt)'
+
+    def view(self):
+        """A view's place in the signature. The callee has it, so that nothing of it is left at the exit."""
+        return f'(shrSliceOf ({self.life} ∷ []) tt (plain (λ _. {self.row.row})))'
 
     def stays(self, is_given):
-        row = f'(plain (λ _. {"f64" if self.kind == "slice" else self.row.row}))'
-        return {'plain': f'stay-none (λ _. {self.row.row}) yes', 'slice': f'gave-slice ({self.life} ∷ []) tt {row}', 'shared': f'stay-none-ref ({self.life} ∷ []) tt {row} yes'}.get(
-            self.kind, f'{"gave-ref" if is_given else "stay-ref"} ({self.life} ∷ []) tt {row}')
+        row = f'(plain (λ _. {self.row.row}))'
+        return {'plain': f'stay-none (λ _. {self.row.row}) yes', 'slice': f'gave-slice ({self.life} ∷ []) tt {row}', 'view': f'stay-dropped {self.view()} yes',
+                'shared': f'stay-none-ref ({self.life} ∷ []) tt {row} yes'}.get(self.kind, f'{"gave-ref" if is_given else "stay-ref"} ({self.life} ∷ []) tt {row}')
 
     def goes(self, is_given, count):
-        row, to = f'(plain (λ _. {"f64" if self.kind == "slice" else self.row.row}))', f'𝓤 H A W {count}'
+        row, to = f'(plain (λ _. {self.row.row}))', f'𝓤 H A W {count}'
         return {'plain': f'goes-none {to} (λ _. {self.row.row}) yes (λ κs x f. refl)', 'slice': f'goes-gave-slice {to} {self.life} tt {row}',
-                'shared': f'goes-none-ref {to} ({self.life} ∷ []) tt {row} yes'}.get(self.kind, f'{"goes-gave-ref" if is_given else "goes-ref"} {to} {self.life} tt {row}')
+                'view': f'goes-dropped {to} {self.view()} yes (λ κs x f. refl)', 'shared': f'goes-none-ref {to} ({self.life} ∷ []) tt {row} yes'}.get(
+                    self.kind, f'{"goes-gave-ref" if is_given else "goes-ref"} {to} {self.life} tt {row}')
 
     def tells(self):
         at = f'(named {self.life}) (κs{nth(self.life)})' if self.life is not None else ''
-        return {'plain': self.row.tells, 'slice': f'mut-slice-tells {at} f64', 'shared': f'shr-tells {at} {self.row.row}'}.get(self.kind, f'mut-tells {at} {self.row.row}')
+        how = {'lent': 'mut-tells', 'shared': 'shr-tells', 'slice': 'mut-slice-tells', 'view': 'shr-slice-tells'}
+        return f'{how[self.kind]} {at} {self.row.row}' if self.kind in how else self.row.tells
 
     def vals(self):
-        return {'plain': self.row.vals, 'slice': 'slice-vals'}.get(self.kind, 'ptr-vals')
+        return self.row.vals if self.kind == 'plain' else 'slice-vals' if self.has_elements else 'ptr-vals'
 
 
 class Callee:

@@ -11,6 +11,10 @@ class Row:
         self.row, self.denotes, self.machine, self.value = row, denotes, machine, value
         self.vals, self.tells, self.lawful, self.makes, self.copy = vals, tells, lawful, makes, copy
 
+    def landed(self):
+        """The type of a local in which a result lands."""
+        return self.machine if self.denotes in ('ℕ', 'Float', 'Bool') else f'{self.denotes}″.mir'
+
     def is_of(self, x):
         """That x is of this type, with its machine value written out."""
         return f'Is {self.row} {x} ({self.value(x)} ∷ [])'

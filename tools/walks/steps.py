@@ -147,7 +147,7 @@ class Call:
         row, at = self.row, c.at(f'_{local}')
         c.bind(f'peeks ! {row.laws()} {self.r} ({self.w} ∷ []) (λ {self.known}.')
         c.say(f'land ! (from ! (stop !)) ({init(c, local, row.typed(self.r, self.known))})',
-              f'rewrite ! {at} (λ (u : Val). ‵ (fat fullShare {row.denotes}″.mir l-{local} 0 u)) (ap only ({row.tells} {self.r} ({self.w} ∷ []) {self.known})) refl')
+              f'rewrite ! {at} (λ (u : Val). ‵ (fat fullShare {row.landed()} l-{local} 0 u)) (ap only ({row.tells} {self.r} ({self.w} ∷ []) {self.known})) refl')
 
     def is_known(self):
         """Why the result is of its type, its machine value written out."""

@@ -3,7 +3,7 @@
 
     { let done = G(ARGS); *run = done.S; done.T }                        the lent struct is stored whole
     { let done = G(ARGS); run.p = done.x; run.p.q = done.y; done.T }     parts of it are
-    { G(*run) }                                                          it is only read
+    { G(*run, ARGS) }                                                    it is only read
 
 An argument is a parameter, `*run` for all of the struct, or `run.p.q` for a part of it."""
 import re
@@ -11,7 +11,7 @@ from context import Context
 from frame import Frame
 from known import Known
 from nine import nine_law
-from params import FLOATS, Callee
+from params import Callee
 from parts import Part, give_all
 from rows import NINE, nth, numbers, product_of, tuple_of
 from sources import Refused
@@ -38,6 +38,7 @@ class Thin(Known, Frame):
         self.done = self.rows.of(self.done_type)
         self.args = [self.arg(a) for a in self.texts]
         self.slices = [p for p in self.params if p.kind == 'slice']
+        self.passed = [p for p in self.params if p.has_elements]
         self.whole = any(star for star, *_ in self.stores)
         found = RESULT.search(function.body)
         self.told = f'(r .{found.group(1)})' if found else 'r'
@@ -50,7 +51,7 @@ class Thin(Known, Frame):
     def arg(self, text):
         name, *fields = text.lstrip('*').split('.')
         p = self.by_name[name]
-        if p.kind in ('plain', 'slice'):
+        if p.kind == 'plain' or p.has_elements:
             return p
         return Part(p, fields, self.rows)
 
@@ -83,9 +84,9 @@ class Thin(Known, Frame):
                 types.append(a.row.machine)
                 body.append(f'(assign (place {self.made[i][0]} []) (rvOpd (copy (place {self.lent.local_at} {lent}{a.place()}[])))))')
             elif a.kind == 'slice':
-                types += [f'(tyRef erased mut {FLOATS})', f'(τ-slice erased {FLOATS})']
+                types += [f'(tyRef erased mut {a.row.machine})', f'(τ-slice erased {a.row.machine})']
                 to, both, at = *self.made[i], a.local_at
-                body += [f'(assign (place {to} []) (addrOf (place {at} (field 0 ∷ deref {FLOATS} ∷ []))))',
+                body += [f'(assign (place {to} []) (addrOf (place {at} (field 0 ∷ deref {a.row.machine} ∷ []))))',
                          f'(assign (place {both} []) (aggregate (copy (place {to} []) ∷ copy (place {at} (field 1 ∷ [])) ∷ [])))']
         given = ''.join(f'copy (place {self.handed(i)} []) ∷ ' for i in range(len(self.args)))
         body.append(f'(call {self.callee.key} ({given}[]) (place {self.done_at} []))')
@@ -129,14 +130,14 @@ class Thin(Known, Frame):
         g, lent = self.callee, self.lent
         values = tuple_of([(a.row.value(a.value()) if isinstance(a, Part) else a.value()) + ' ∷ []' for a in self.args])
         out = ["  -- what the callee's triple binds outside", f'  abbrev to-callee : {g.contract()} 𝓤 H A at-mem run-of .Ghost',
-               f'  to-callee = (({self.lives(self.slices)}, {self.shares(self.slices)}, tt, {self.held()}, {values}), tt)', '']
-        links = [self.token(p) for p in self.slices] + [f'‵ (MutSlice (named {i}) κ-{p.v} f64 .own x-{p.v} ({p.value()} ∷ []))' for i, p in enumerate(self.slices)]
+               f'  to-callee = (({self.lives(self.passed)}, {self.shares(self.passed)}, tt, {self.held()}, {values}), tt)', '']
+        links = [self.token(p) for p in self.passed] + [f'‵ ({p.owns(i)} .own x-{p.v} ({p.value()} ∷ []))' for i, p in enumerate(self.passed)]
         one = ' ⊛ '.join(links) if links else '‵ ftrue'
         c = Context(['one'] if links else ['acc'])
         if links:
             c.say('split !')
-            c.become(1, f'l:{self.slices[0].name}', f's:{self.slices[0].name}')
-        hand_over(c, [self.handing(a) for a in self.args], self.slices)
+            c.become(1, f'l:{self.passed[0].name}', f's:{self.passed[0].name}')
+        hand_over(c, [self.handing(a) for a in self.args], self.passed)
         needs = f'({lent.v}-is : {lent.row.is_of(lent.v)}) → ' if self.reads() else ''
         name = f' {lent.v}-is' if self.reads() else ''
         return out + [f'  goes : {needs}ent 𝓤 (⋆ 𝓤 H A (({one}) ∷ [])) ({g.contract()} 𝓤 H A at-mem run-of .pre to-callee)', f'  goes{name} =', f'      qed W (({one}) ∷ []) ∵ {c.text()}', '']
@@ -144,7 +145,7 @@ class Thin(Known, Frame):
     def handing(self, a):
         if isinstance(a, Part):
             return None, a.row.owned(a.value(), a.known())
-        return (f's:{a.name}', None) if a.kind == 'slice' else (None, a.row.owned(a.v, f'{a.v}-is'))
+        return (f's:{a.name}', None) if a.has_elements else (None, a.row.owned(a.v, f'{a.v}-is'))
 
     # ---- the exit
     def left(self):
@@ -154,7 +155,7 @@ class Thin(Known, Frame):
             items += [('obs', f'‵ (fobs γ-{lent.v} ({lent.row.row} .coded .code {self.new()}))'), ('bor', f'‵ (fbor κ-{lent.v} (Held (mem {lent.row.row}) b-{lent.v} o-{lent.v} γ-{lent.v}))')]
         else:
             items += [('res', f'‵ (fres γ-{lent.v} ({lent.row.row} .coded .code {lent.v}))'), ('shr', f'‵ (fshr-bor κ-{lent.v} (λ p. partAt {lent.row.row} p {lent.v} b-{lent.v} o-{lent.v}))')]
-        return items + [(f'fin:{p.name}', f'‵ (finally f64 γ-{p.v} z-{p.v})') for p in self.slices]
+        return items + [(f'fin:{p.name}', f'‵ (finally {p.row.row} γ-{p.v} z-{p.v})') for p in self.slices]
 
     def says(self):
         if not self.stores:
@@ -172,7 +173,7 @@ class Thin(Known, Frame):
             c.say(f'feqI ! (List Val) ({p.value()} ∷ []) ({p.value()} ∷ []) refl', 'fjoin3 !')
             c.become(2, 'this')
         self.leaves(c, self.told, lambda p: self.new() if p.kind == 'lent' else f'z-{p.v}', self.says(), put_lent)
-        ends = ''.join(f' (z-{p.v} : List Float)' for p in self.slices)
+        ends = ''.join(f' (z-{p.v} : {p.inside()})' for p in self.slices)
         same = ''.join(f' → length z-{p.v} ≡ length {p.v}' for p in self.slices)
         fact = self.fact({p.name: f'z-{p.v}' for p in self.slices})
         value = self.result.value(self.told)
@@ -186,12 +187,12 @@ class Thin(Known, Frame):
         self.prepare(c)
         call = self.calling()
         c.note('the call')
-        if slices:
-            give_all(c, [f'l:{p.name}' for p in slices] + [f'p:{p.name}' for p in slices])
+        if self.passed:
+            give_all(c, [f'l:{p.name}' for p in self.passed] + [f'p:{p.name}' for p in self.passed])
         else:
             c.add('give', 'nothing !')
         call.made(c)
-        call.back(c, [None if isinstance(a, Part) else a for a in self.args], slices)
+        call.back(c, [None if isinstance(a, Part) else a for a in self.args], self.passed)
         c.note('the result lands in its local, with its machine value written out')
         call.lands(c, self.done_at)
         if self.stores:
@@ -217,9 +218,9 @@ class Thin(Known, Frame):
             shut(c, self.lent)
 
     def calling(self):
-        ends = product_of(['List Float' if not isinstance(a, Part) and a.kind == 'slice' else 'Unit {0}' for a in self.args])
+        ends = product_of([a.inside() if a in self.slices else 'Unit {0}' for a in self.args])
         return Call(self.callee, self.done, [self.handed(i) for i in range(len(self.args))], self.held(), ends, self.fact({p.name: self.exit_of(p) for p in self.slices}),
-                    self.lives(self.slices), ' ⊛ '.join([self.token(p) for p in self.slices] + ['‵ ftrue']), goes=f'(goes {self.lent.v}-is)' if self.reads() else 'goes')
+                    self.lives(self.passed), ' ⊛ '.join([self.token(p) for p in self.passed] + ['‵ ftrue']), goes=f'(goes {self.lent.v}-is)' if self.reads() else 'goes')
 
     def exit_of(self, p):
         return f'(zs{nth(self.args.index(p))})'

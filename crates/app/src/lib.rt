@@ -12,9 +12,11 @@ ghost use mathlib.Core.List.{[], _∷_};
 ghost use Rattle.run.specs.Plan.{defaultSettings};
 ghost use Rattle.gauss_jackson.specs.Answers.{started, answered, openQuestion};
 ghost use Rattle.refusals.specs.Numbers.{numberTold};
+ghost use Rattle.stored.specs.Stored.{storing, storedIn, loaded};
 ghost use Rattle.dense.specs.Interpolation.{judged, interpolated, batched};
 ghost use Rattle.app.specs.Reply.{abiNumber, replyOf};
 
+mod keeping;
 mod lending;
 mod replies;
 
@@ -122,6 +124,26 @@ pub extern "C" fn gj_open_question(run: &Run) -> Reply
     ensures { λ x. ⌜ x ≡ replyOf (openQuestion (now (run .entry))) ⌝ }
 {
     replies::open_in(*run)
+}
+
+// The run put away in `out`, 2,048 bytes: 0, or the number of the refusal (7, 10), and then `out` is as it was.
+#[no_mangle]
+pub extern "C" fn gj_store(run: &Run, out: &mut [u8]) -> u32
+    ensures { λ n. ⌜ (n ≡ numberTold (storing (now (run .entry)) (now (out .entry))))
+        × (now (out .exit) ≡ storedIn (now (run .entry)) (now (out .entry))) ⌝ }
+{
+    keeping::stored_by(*run, out)
+}
+
+// A stored run taken up again: the lent run becomes it and the reply is its open question; refused (10, 11), the lent run stays as it is.
+#[no_mangle]
+pub extern "C" fn gj_load(run: &mut Run, bytes: &[u8]) -> Reply
+    ensures { λ x. ⌜ (x ≡ replyOf (loaded (now (run .entry)) (now (bytes .entry)) .outcome))
+        × (now (run .exit) ≡ loaded (now (run .entry)) (now (bytes .entry)) .run) ⌝ }
+{
+    let done = keeping::loaded_by(*run, bytes);
+    *run = done.run;
+    done.reply
 }
 
 // Position and velocity at t, six numbers of `out`: 0, or the number of the refusal (9, 3, 4).

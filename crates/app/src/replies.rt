@@ -67,7 +67,7 @@ fn refused_by(refusal: Refusal) -> Reply
     }
 }
 
-fn reply_of(outcome: Outcome) -> Reply
+pub fn reply_of(outcome: Outcome) -> Reply
     ensures { λ x. ⌜ x ≡ replyOf outcome ⌝ }
 {
     match outcome {

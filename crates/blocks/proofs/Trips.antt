@@ -1,7 +1,7 @@
 -- Writing and reading undo each other.
 use mathlib.Core.Path.{_≡_, refl, sym, _∙_, ap, ap₂}
-use mathlib.Core.Logic.{_≢_, ⊎-elim}
-use Prim.Native.Nat.{ℕ, zero, suc, _+_, _-_, _*_, _/_, _%_, _^_, _≤_, _<_}
+use mathlib.Core.Logic.{_≢_}
+use Prim.Native.Nat.{ℕ, zero, suc, _+_, _-_, _*_, _/_, _%_, _^_, _<_}
 use native.Mathlib.Nat.{div-div-eq-div-mul}
 use native.Mathlib.Omega.{arith}
 use mathlib.Core.Bool.{Bool, true, false, cond}
@@ -9,11 +9,11 @@ use mathlib.Core.List.{List}
 use lib.Dec.{eqb}
 use lib.ListN.{length, getD}
 use borrow.Author.Tests.{eq-eqb, ne-eqb, eqb-true, eqb-false}
-use Rattle.blocks.specs.Rows.{row}
 use Rattle.blocks.specs.Blocks.{littleEndian, wordAt, blockWord, check, formWord, formByte, form, blockIsWhole, isWhole, contentAt, contentOf}
 use Rattle.blocks.specs.Trips.{Below, ReadAgain, WrittenIsRead, ReadIsWritten}
 use Rattle.blocks.proofs.Filled.{length-row, at-row, row-of, same-row}
-use Rattle.blocks.proofs.Whole.{both, apart, Whole, whole-length, whole-block}
+use Rattle.blocks.proofs.Words.{form-check}
+use Rattle.blocks.proofs.Whole.{Whole, whole-length, whole-block}
 
 -- ---- a word and its bytes
 word-back : (w : ℕ) → w < 2 ^ 32 → w % 256 + 256 * (w / 256 % 256) + 65536 * (w / 65536 % 256) + 16777216 * (w / 16777216 % 256) ≡ w
@@ -92,12 +92,7 @@ module _ (content : List ℕ) (size : length content ≡ 504) (small : Below (2 
       rw (e, d, ne-eqb j 127 (λ (z : j ≡ 127). omega arith)))
 
   check-is : (b : ℕ) → b < 4 → wordAt (form content) (128 * b + 127) ≡ check (blockWord content b) 127
-  unfolding formWord
-  check-is b h =
-      word-is (128 * b + 127) (omega arith)
-      ∙ (let e : (128 * b + 127) % 128 ≡ 127 = omega arith in
-      let d : (128 * b + 127) / 128 ≡ b = omega arith in
-      rw (e, d))
+  check-is b h = word-is (128 * b + 127) (omega arith) ∙ form-check content b
 
   whole-is : (b : ℕ) → b < 4 → blockIsWhole (form content) b ≡ true
   unfolding blockIsWhole blockWord

@@ -8,8 +8,9 @@ use mathlib.Core.Bool.{Bool, true, false, _&&_}
 use mathlib.Core.List.{List}
 use lib.Dec.{eqb}
 use lib.ListN.{length}
-use borrow.Author.Tests.{eqb-true}
-use Rattle.blocks.specs.Blocks.{wordAt, check, blockIsWhole, isWhole}
+use borrow.Author.Tests.{eq-eqb, eqb-true}
+use Rattle.blocks.specs.Blocks.{wordAt, check, blockIsWhole, isWhole, contentAt, contentOf, taken}
+use Rattle.blocks.proofs.Filled.{filled-row}
 
 pub apart : {A : Type 0} → false ≡ true → A
 apart e = let z : _≡_ {A = ℕ} 0 1 = cc in absurd (omega arith)
@@ -46,3 +47,8 @@ up-to bytes (suc n) b h e =
 pub whole-block : (bytes : List ℕ) (b : ℕ) → b < 4 → isWhole bytes ≡ true → Whole bytes b
 unfolding isWhole
 whole-block bytes b h e = up-to bytes 4 b h e
+
+-- what is taken of a stored form is its content
+pub whole-taken : (bytes content : List ℕ) → isWhole bytes ≡ true → length content ≡ 504 → taken bytes content ≡ contentOf bytes
+unfolding taken contentOf
+whole-taken bytes content e l = rw (eq-eqb _ _ (whole-length bytes e)) (filled-row (contentAt bytes) 504 content 0 l)

@@ -1,12 +1,11 @@
 -- W-201: "The stored form is four blocks of 512 bytes: block number from 0, 504 bytes of content, and a check that is 1 plus the sum of the 127
 -- words before it, taken modulo 2^32. Words are 32 bits, little-endian".
 use Prim.Native.Nat.{ℕ, zero, suc, _+_, _-_, _*_, _/_, _%_, _^_}
-use mathlib.Core.Bool.{Bool, true, false, _&&_, cond}
+use mathlib.Core.Bool.{Bool, _&&_, cond}
 use mathlib.Core.List.{List, [], _∷_}
 use lib.Dec.{eqb}
-use lib.ListN.{length, getD, replicate}
-use Rattle.blocks.specs.declared.Read.{Read}
-use Rattle.blocks.specs.Rows.{row}
+use lib.ListN.{length, getD}
+use Rattle.blocks.specs.Rows.{row, filled}
 
 -- the four bytes of a word
 unfoldable pub littleEndian : ℕ → List ℕ
@@ -56,5 +55,6 @@ contentAt bytes j = wordAt bytes (128 * (j / 126) + 1 + j % 126)
 unfoldable pub contentOf : List ℕ → List ℕ
 contentOf bytes = row (contentAt bytes) 504
 
-unfoldable pub readFrom : List ℕ → Read
-readFrom bytes = cond (isWhole bytes) (record { whole = true; content = contentOf bytes }) (record { whole = false; content = replicate 504 0 })
+-- over a row of words, where the bytes are 2,048; whole or not
+unfoldable pub taken : (bytes content : List ℕ) → List ℕ
+taken bytes content = cond (eqb (length bytes) 2048) (filled (contentAt bytes) 504 content) content

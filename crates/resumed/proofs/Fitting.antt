@@ -16,18 +16,18 @@ use Rattle.triple.specs.declared.Triple.{Triple}
 use Rattle.triple.specs.declared.State.{State}
 use Rattle.triple.specs.declared.Point.{Point}
 use Rattle.triple.specs.Arithmetic.{nought, zeros, plus, minus, times, over}
-use Rattle.triple.specs.Size.{absolute, larger, sizeOf}
-use Rattle.triple.specs.Nine.{at, nineZeros, slide}
-use Rattle.rk4.specs.Rk4.{ending}
+use Rattle.triple.specs.Size.{absolute, largerOf, sizeOf}
+use Rattle.triple.specs.Nine.{at, nineZeros, slid}
+use Rattle.rk4.specs.Rk4.{endOfStep}
 use Rattle.sums.specs.declared.Sums.{Sums}
 use Rattle.sums.specs.declared.Fixed.{Fixed}
-use Rattle.sums.specs.Weighted.{weighNext, fixedA, fixedB}
+use Rattle.sums.specs.Weighted.{weightedNext, fixedA, fixedB}
 use Rattle.sums.specs.Sums.{epochSums, onSums, pointOf, predictedState, fixedOf, correctedState}
 use Rattle.startup.specs.declared.Places.{Places}
 use Rattle.startup.specs.declared.Widest.{Widest}
 use Rattle.startup.specs.Points.{timeAt, stateAt, firstPlaces, placed}
-use Rattle.resumed.specs.Lines.{Double, Doubles}
-use Rattle.startup.specs.Passes.{sumsOn, lastSums, tiny, widened, calm, pointOn, pointBack, fourOn, fourBack, passPlaces}
+use Rattle.resumed.specs.Outside.{Double, Doubles}
+use Rattle.startup.specs.Passes.{sumsOn, lastSums, tiny, widened, calmAt, pointOn, pointBack, pointsOn, pointsBack, passPlaces}
 
 abbrev pub F : Float → Type 0
 F x = Double x
@@ -63,9 +63,9 @@ times-fit : (a : Triple) (k : Float) → Fit (times a k)
 unfolding times
 times-fit a k = record { x = mul-fits binary64 (a .x) k; y = mul-fits binary64 (a .y) k; z = mul-fits binary64 (a .z) k }
 
-pub ending-fit : (p : Point) (h : Float) (a b c d : Triple) → FitState (ending p h a b c d)
-unfolding ending
-ending-fit p h a b c d = record { r = plus-fit _ _; v = plus-fit _ _ }
+pub end-fit : (p : Point) (h : Float) (a b c d : Triple) → FitState (endOfStep p h a b c d)
+unfolding endOfStep
+end-fit p h a b c d = record { r = plus-fit _ _; v = plus-fit _ _ }
 
 pub point-fit : (i : ℕ) (h : Float) (u : Sums) (a : List Triple) → FitState (pointOf i h u a)
 unfolding pointOf
@@ -80,7 +80,7 @@ unfolding correctedState
 corrected-fit h u f b = record { r = times-fit _ _; v = times-fit _ _ }
 
 pub fixed-fit : (a : List Triple) → Fit (fixedOf a .fa) × Fit (fixedOf a .fb)
-unfolding fixedOf fixedA fixedB weighNext
+unfolding fixedOf fixedA fixedB weightedNext
 fixed-fit a = (plus-fit _ _, plus-fit _ _)
 
 pub on-fit : (u : Sums) (b : Triple) → FitSums (onSums u b)
@@ -103,15 +103,15 @@ absolute-fit (inf s) h = inf-fits binary64 false
 absolute-fit (fin s zero e) h = unfold fits in h
 absolute-fit (fin s (suc m) e) h = unfold fits in h
 
-larger-fit : (x y : Float) → F x → F y → F (larger x y)
-unfolding larger
+larger-fit : (x y : Float) → F x → F y → F (largerOf x y)
+unfolding largerOf
 larger-fit x y h k = cond-fits binary64 (lt x y) y x k h
 
 size-fit : (t : Triple) → Fit t → F (sizeOf t)
 unfolding sizeOf
 size-fit t h =
-    cond-fits binary64 (isNan (t .x) || isNan (t .y) || isNan (t .z)) nan (larger (larger (absolute (t .x)) (absolute (t .y))) (absolute (t .z))) (nan-fits binary64)
-    (larger-fit (larger (absolute (t .x)) (absolute (t .y))) (absolute (t .z)) (larger-fit (absolute (t .x)) (absolute (t .y)) (absolute-fit (t .x) (h .x)) (absolute-fit (t .y) (h .y))) (absolute-fit (t .z) (h .z)))
+    cond-fits binary64 (isNan (t .x) || isNan (t .y) || isNan (t .z)) nan (largerOf (largerOf (absolute (t .x)) (absolute (t .y))) (absolute (t .z))) (nan-fits binary64)
+    (larger-fit (largerOf (absolute (t .x)) (absolute (t .y))) (absolute (t .z)) (larger-fit (absolute (t .x)) (absolute (t .y)) (absolute-fit (t .x) (h .x)) (absolute-fit (t .y) (h .y))) (absolute-fit (t .z) (h .z)))
 
 pub record FitWidest (w : Widest) : Type 0 where
   pub delta : F (w .delta)
@@ -155,8 +155,8 @@ pub zeros-row : Row nineZeros
 unfolding nineZeros
 zeros-row = nine-row zeros-fit zeros-fit zeros-fit zeros-fit zeros-fit zeros-fit zeros-fit zeros-fit zeros-fit
 
-pub slide-row : (a : List Triple) (t : Triple) → Row a → Fit t → Row (slide a t)
-unfolding slide
+pub slide-row : (a : List Triple) (t : Triple) → Row a → Fit t → Row (slid a t)
+unfolding slid
 slide-row a t h k = nine-row (h .fit 1) (h .fit 2) (h .fit 3) (h .fit 4) (h .fit 5) (h .fit 6) (h .fit 7) (h .fit 8) k
 
 pub record FitPlaces (p : Places) : Type 0 where
@@ -168,13 +168,13 @@ unfolding placed
 placed-fit i x p h k = record { r = row-set _ i _ (k .r) (h .r); v = row-set _ i _ (k .v) (h .v) }
 
 pub pass-fit : (h : Float) (p : Places) (a : List Triple) → FitPlaces p → FitPlaces (passPlaces h p a)
-unfolding passPlaces fourOn fourBack pointOn pointBack
+unfolding passPlaces pointsOn pointsBack pointOn pointBack
 pass-fit h p a k =
     record {
       r = nine-row (point-fit _ _ _ _ .r) (point-fit _ _ _ _ .r) (point-fit _ _ _ _ .r) (point-fit _ _ _ _ .r) (k .r .fit 4) (point-fit _ _ _ _ .r) (point-fit _ _ _ _ .r) (point-fit _ _ _ _ .r) (point-fit _ _ _ _ .r);
       v = nine-row (point-fit _ _ _ _ .v) (point-fit _ _ _ _ .v) (point-fit _ _ _ _ .v) (point-fit _ _ _ _ .v) (k .v .fit 4) (point-fit _ _ _ _ .v) (point-fit _ _ _ _ .v) (point-fit _ _ _ _ .v) (point-fit _ _ _ _ .v);
     }
 
-pub calm-fit : (a : List Triple) → Row a → FitWidest (calm a)
-unfolding calm tiny
+pub calm-fit : (a : List Triple) → Row a → FitWidest (calmAt a)
+unfolding calmAt tiny
 calm-fit a h = widened-fit (record { delta = nought; mag = tiny }) (at a 4) (at a 4) (record { delta = nought-fits; mag = round-fits binary64 false 1 _ }) (h .fit 4)

@@ -15,7 +15,7 @@ use Rattle.triple.specs.Arithmetic.{nought, zeros}
 use Rattle.triple.specs.Nine.{at}
 use Rattle.sums.specs.Sums.{correctedState}
 use Rattle.startup.specs.Points.{stateAt, firstPlaces}
-use Rattle.startup.specs.Passes.{settled}
+use Rattle.startup.specs.Passes.{isSettled}
 use Rattle.run.specs.declared.Settings.{Settings}
 use Rattle.run.specs.declared.Plan.{Plan}
 use Rattle.run.specs.declared.Slopes.{Slopes}
@@ -28,16 +28,19 @@ use Rattle.run.specs.declared.waiting.Stage.{Stage}
 use Rattle.run.specs.declared.waiting.Stage.the-variants.{First, Second, Third, Fourth}
 use Rattle.run.specs.declared.waiting.Waiting.{Waiting}
 use Rattle.run.specs.declared.waiting.Waiting.the-variants.{Epoch, Forward, Backward, Survey, Pass, Step, Tail, TailSample, Ended, Unknown}
-use Rattle.run.specs.Plan.{planOf, tooNear, withinLimits}
-use Rattle.run.specs.Formulas.{goesOn, isShort, rests, startTrack, trackOn}
-use Rattle.run.specs.Waiting.{waitingOf, nextPoint}
-use Rattle.run.specs.Moves.{freshBody, surveyed, slopesWith, kept, stepEnd, movedOn, movedBack, passBegun, renewed, passMade, launched, predicted, tried, committed, tailEnd}
-use Rattle.run.specs.Samples.{fits}
-use Rattle.run.specs.Counting.{soundOf}
+use Rattle.run.specs.Plan.{planOf, isTooNear}
+use Rattle.run.specs.Limits.{areWithinLimits, wantsSamples}
+use Rattle.run.specs.Formulas.{isDue, isTail, isAtRest, startTrack, trackOn}
+use Rattle.run.specs.Waiting.{waitsAt, isLast, stageAfter, nextPoint}
+use Rattle.run.specs.Moves.{freshBody, surveyed, withSlope, kept, endOf, movedOn, movedBack, passBegun, renewed, passMade, launched, predicted, tried, committed, endOfTail}
+use Rattle.run.specs.Samples.{hasRoom}
+use Rattle.run.specs.Sound.{isSound}
 use Rattle.gauss_jackson.specs.declared.Answered.{Answered}
 use Rattle.gauss_jackson.specs.declared.Outcome.{Outcome}
-use Rattle.gauss_jackson.specs.Answers.{noPlan, endedRun, ending, asking, onward, Turn, quiet, sampling, startupEnded, stepEnded, passesOn, passEnded, forwardTaken, backwardTaken, surveyTaken, passTaken, stepTaken, tailTaken, lastTaken, answeredAt, refusing, answered, started, counted}
-use Rattle.resumed.proofs.Fitting.{F, Fit, FitState, FitSums, FitWidest, FitPlaces, Row, nought-fits, zeros-fit, ending-fit, predicted-fit, corrected-fit, fixed-fit, on-fit, last-fit, time-fit, widened-fit, row-set, zeros-row, slide-row, placed-fit, pass-fit, calm-fit}
+use Rattle.gauss_jackson.specs.declared.Verdict.{Verdict}
+use Rattle.gauss_jackson.specs.declared.Verdict.the-variants.{Fine, Refuse}
+use Rattle.gauss_jackson.specs.Answers.{noPlan, endedRun, ending, asking, onward, Given, quiet, sampling, startupEnded, stepEnded, passesOn, passEnded, rk4Taken, forwardEnded, backwardEnded, tailEnded, surveyTaken, passTaken, stepTaken, lastTaken, answeredAt, refusing, answered, verdictOn, startedBy, started, nextCount}
+use Rattle.resumed.proofs.Fitting.{F, Fit, FitState, FitSums, FitWidest, FitPlaces, Row, nought-fits, zeros-fit, end-fit, predicted-fit, corrected-fit, fixed-fit, on-fit, last-fit, time-fit, widened-fit, row-set, zeros-row, slide-row, placed-fit, pass-fit, calm-fit}
 
 pub record FitPlan (p : Plan) : Type 0 where
   pub step : F (p .settings .h)
@@ -77,8 +80,8 @@ module _ (b : Body) (g : Good b) where
   unfolding surveyed
   surveyed-good i x h = record { plan = g .plan; places = g .places; a = row-set _ i x (g .a) h; slopes = g .slopes; widest = g .widest; track = g .track; trial = g .trial }
 
-  slopes-good : (s : Stage) (x : Triple) → Fit x → FitSlopes (slopesWith s (b .slopes) x)
-  unfolding slopesWith
+  slopes-good : (s : Stage) (x : Triple) → Fit x → FitSlopes (withSlope s (b .slopes) x)
+  unfolding withSlope
   slopes-good First x h = record { l1 = h; l2 = g .slopes .l2; l3 = g .slopes .l3 }
   slopes-good Second x h = record { l1 = g .slopes .l1; l2 = h; l3 = g .slopes .l3 }
   slopes-good Third x h = record { l1 = g .slopes .l1; l2 = g .slopes .l2; l3 = h }
@@ -89,12 +92,12 @@ module _ (b : Body) (g : Good b) where
   kept-good s x h = record { plan = g .plan; places = g .places; a = g .a; slopes = slopes-good s x h; widest = g .widest; track = g .track; trial = g .trial }
 
   on-good : (i : ℕ) (x : Triple) → Good (movedOn i b x)
-  unfolding movedOn stepEnd
-  on-good i x = record { plan = g .plan; places = placed-fit (i + 1) _ _ (ending-fit _ _ _ _ _ _) (g .places); a = g .a; slopes = g .slopes; widest = g .widest; track = g .track; trial = g .trial }
+  unfolding movedOn endOf
+  on-good i x = record { plan = g .plan; places = placed-fit (i + 1) _ _ (end-fit _ _ _ _ _ _) (g .places); a = g .a; slopes = g .slopes; widest = g .widest; track = g .track; trial = g .trial }
 
   back-good : (i : ℕ) (x : Triple) → Good (movedBack i b x)
-  unfolding movedBack stepEnd
-  back-good i x = record { plan = g .plan; places = placed-fit (i - 1) _ _ (ending-fit _ _ _ _ _ _) (g .places); a = g .a; slopes = g .slopes; widest = g .widest; track = g .track; trial = g .trial }
+  unfolding movedBack endOf
+  back-good i x = record { plan = g .plan; places = placed-fit (i - 1) _ _ (end-fit _ _ _ _ _ _) (g .places); a = g .a; slopes = g .slopes; widest = g .widest; track = g .track; trial = g .trial }
 
   begun-good : Good (passBegun b)
   unfolding passBegun
@@ -171,7 +174,7 @@ GoodRun run = Good (run .body)
 pub record GoodA (x : Answered) : Type 0 where
   pub body : Good (x .run .body)
 
-pub record GoodT (t : Turn) : Type 0 where
+pub record GoodT (t : Given) : Type 0 where
   pub got : GoodA (t .got)
 
 ended-good : (o : Outcome) → GoodA (ending o)
@@ -186,20 +189,20 @@ either : (d : Bool) (x y : Answered) → GoodA x → GoodA y → GoodA (cond d x
 either true x y g h = g
 either false x y g h = h
 
-eitherT : (d : Bool) (x y : Turn) → GoodT x → GoodT y → GoodT (cond d x y)
+eitherT : (d : Bool) (x y : Given) → GoodT x → GoodT y → GoodT (cond d x y)
 eitherT true x y g h = g
 eitherT false x y g h = h
 
 onward-good : (c : Count) (b : Body) → Good b → GoodA (onward c b)
 unfolding onward
 onward-good c b g =
-    either (goesOn (b .plan) (b .track .t)) _ _
-    (either (ltb (b .track .steps) (b .plan .settings .«max_steps»)) _ _ (either (isShort (b .plan) (b .track .t)) _ _ (asking-good (Tail First) c b g) (asking-good (Step 0) c (predicted b) (predicted-good b g))) (ended-good _))
+    either (isDue (b .plan) (b .track .t)) _ _
+    (either (ltb (b .track .steps) (b .plan .settings .«max_steps»)) _ _ (either (isTail (b .plan) (b .track .t)) _ _ (asking-good (Tail First) c b g) (asking-good (Step 0) c (predicted b) (predicted-good b g))) (ended-good _))
     (ended-good _)
 
 sampling-good : (n : ℕ) (ss : List Sample) (b : Body) (out : List Float) (x : Answered) → GoodA x → GoodT (sampling n ss b out x)
 unfolding sampling
-sampling-good n ss b out x g = eitherT (b .plan .settings .samples) _ _ (eitherT (fits n (length ss) out) _ _ (record { got = g }) (record { got = ended-good _ })) (record { got = g })
+sampling-good n ss b out x g = eitherT (wantsSamples (b .plan .settings)) _ _ (eitherT (hasRoom n (length ss) out) _ _ (record { got = g }) (record { got = ended-good _ })) (record { got = g })
 
 startup-ended-good : (c : Count) (b : Body) (out : List Float) → Good b → GoodT (startupEnded c b out)
 unfolding startupEnded
@@ -215,22 +218,20 @@ passes-on-good c b out g = eitherT (ltb (b .«startup_iters») (b .plan .setting
 
 pass-ended-good : (c : Count) (b : Body) (out : List Float) → Good b → GoodT (passEnded c b out)
 unfolding passEnded
-pass-ended-good c b out g = eitherT (settled (b .plan .settings .«startup_tol») (b .widest)) _ _ (startup-ended-good c (passMade b) out (made-good b g)) (passes-on-good c (passMade b) out (made-good b g))
+pass-ended-good c b out g = eitherT (isSettled (b .plan .settings .«startup_tol») (b .widest)) _ _ (startup-ended-good c (passMade b) out (made-good b g)) (passes-on-good c (passMade b) out (made-good b g))
 
-forward-good : (i : ℕ) (s : Stage) (c : Count) (b : Body) (x : Triple) → Good b → Fit x → GoodA (forwardTaken i s c b x)
-unfolding forwardTaken
-forward-good i First c b x g h = asking-good (Forward i Second) c (kept First b x) (kept-good b g First x h)
-forward-good i Second c b x g h = asking-good (Forward i Third) c (kept Second b x) (kept-good b g Second x h)
-forward-good i Third c b x g h = asking-good (Forward i Fourth) c (kept Third b x) (kept-good b g Third x h)
-forward-good i Fourth c b x g h =
+rk4-good : (w : Stage → Waiting) (s : Stage) (c : Count) (b : Body) (x : Triple) (y : Answered) → Good b → Fit x → GoodA y → GoodA (rk4Taken w s c b x y)
+unfolding rk4Taken
+rk4-good w s c b x y g h k = either (isLast s) y _ k (asking-good (w (stageAfter s)) c (kept s b x) (kept-good b g s x h))
+
+forward-good : (i : ℕ) (c : Count) (b : Body) (x : Triple) → Good b → GoodA (forwardEnded i c b x)
+unfolding forwardEnded
+forward-good i c b x g =
     either (ltb i 7) _ _ (asking-good (Forward (i + 1) First) c (movedOn i b x) (on-good b g i x)) (asking-good (Backward 4 First) c (movedOn i b x) (on-good b g i x))
 
-backward-good : (i : ℕ) (s : Stage) (c : Count) (b : Body) (x : Triple) → Good b → Fit x → GoodA (backwardTaken i s c b x)
-unfolding backwardTaken
-backward-good i First c b x g h = asking-good (Backward i Second) c (kept First b x) (kept-good b g First x h)
-backward-good i Second c b x g h = asking-good (Backward i Third) c (kept Second b x) (kept-good b g Second x h)
-backward-good i Third c b x g h = asking-good (Backward i Fourth) c (kept Third b x) (kept-good b g Third x h)
-backward-good i Fourth c b x g h =
+backward-good : (i : ℕ) (c : Count) (b : Body) (x : Triple) → Good b → GoodA (backwardEnded i c b x)
+unfolding backwardEnded
+backward-good i c b x g =
     either (ltb 1 i) _ _ (asking-good (Backward (i - 1) First) c (movedBack i b x) (back-good b g i x)) (asking-good (Survey 0) c (movedBack i b x) (back-good b g i x))
 
 step-good : (n : ℕ) (c : Count) (b : Body) (x : Triple) (out : List Float) → Good b → Fit x → GoodT (stepTaken n c b x out)
@@ -238,28 +239,25 @@ unfolding stepTaken
 step-good n c b x out g h =
     let y = correctedState (b .plan .h) (b .track .sums) (b .trial .fixed) x in
     eitherT (ltb n (b .plan .settings .«max_corrector_iters»)) _ _
-    (eitherT (rests (b .plan .settings .«corrector_tol») (b .trial .state) y) _ _ (step-ended-good c (committed b y x) out (committed-good b g y x (corrected-fit _ _ _ _) h)) (record { got = asking-good (Step (n + 1)) c (tried b y) (tried-good b g y (corrected-fit _ _ _ _)) }))
+    (eitherT (isAtRest (b .plan .settings .«corrector_tol») (b .trial .state) y) _ _ (step-ended-good c (committed b y x) out (committed-good b g y x (corrected-fit _ _ _ _) h)) (record { got = asking-good (Step (n + 1)) c (tried b y) (tried-good b g y (corrected-fit _ _ _ _)) }))
     (step-ended-good c (committed b (b .trial .state) x) out (committed-good b g (b .trial .state) x (g .trial .state) h))
 
-tail-good : (s : Stage) (c : Count) (b : Body) (x : Triple) → Good b → Fit x → GoodA (tailTaken s c b x)
-unfolding tailTaken
-tail-good First c b x g h = asking-good (Tail Second) c (kept First b x) (kept-good b g First x h)
-tail-good Second c b x g h = asking-good (Tail Third) c (kept Second b x) (kept-good b g Second x h)
-tail-good Third c b x g h = asking-good (Tail Fourth) c (kept Third b x) (kept-good b g Third x h)
-tail-good Fourth c b x g h =
-    either (b .plan .settings .samples) _ _ (asking-good TailSample c (tried b (tailEnd b x)) (tried-good b g (tailEnd b x) (unfold tailEnd stepEnd in ending-fit _ _ _ _ _ _))) (ended-good _)
+tail-good : (c : Count) (b : Body) (x : Triple) → Good b → GoodA (tailEnded c b x)
+unfolding tailEnded
+tail-good c b x g =
+    either (wantsSamples (b .plan .settings)) _ _ (asking-good TailSample c (tried b (endOfTail b x)) (tried-good b g (endOfTail b x) (unfold endOfTail endOf in end-fit _ _ _ _ _ _))) (ended-good _)
 
 answered-at-good : (w : Waiting) (c : Count) (b : Body) (x : Triple) (out : List Float) → Good b → Fit x → GoodT (answeredAt w c b x out)
 unfolding answeredAt surveyTaken passTaken lastTaken
 answered-at-good Epoch c b x out g h = record { got = asking-good (Forward 4 First) c (surveyed 4 b x) (surveyed-good b g 4 x h) }
-answered-at-good (Forward i s) c b x out g h = record { got = forward-good i s c b x g h }
-answered-at-good (Backward i s) c b x out g h = record { got = backward-good i s c b x g h }
+answered-at-good (Forward i s) c b x out g h = record { got = rk4-good (λ (t : Stage). Forward i t) s c b x _ g h (forward-good i c b x g) }
+answered-at-good (Backward i s) c b x out g h = record { got = rk4-good (λ (t : Stage). Backward i t) s c b x _ g h (backward-good i c b x g) }
 answered-at-good (Survey i) c b x out g h =
     eitherT (ltb i 8) _ _ (record { got = asking-good (Survey (nextPoint i)) c (surveyed i b x) (surveyed-good b g i x h) }) (passes-on-good c (surveyed i b x) out (surveyed-good b g i x h))
 answered-at-good (Pass i) c b x out g h =
     eitherT (ltb i 8) _ _ (record { got = asking-good (Pass (nextPoint i)) c (renewed i b x) (renewed-good b g i x h) }) (pass-ended-good c (renewed i b x) out (renewed-good b g i x h))
 answered-at-good (Step n) c b x out g h = step-good n c b x out g h
-answered-at-good (Tail s) c b x out g h = record { got = tail-good s c b x g h }
+answered-at-good (Tail s) c b x out g h = record { got = rk4-good (λ (t : Stage). Tail t) s c b x _ g h (tail-good c b x g) }
 answered-at-good TailSample c b x out g h = sampling-good _ _ _ _ _ (ended-good _)
 answered-at-good Ended c b x out g h = record { got = ended-good _ }
 answered-at-good Unknown c b x out g h = record { got = ended-good _ }
@@ -267,12 +265,14 @@ answered-at-good Unknown c b x out g h = record { got = ended-good _ }
 pub answered-good : (run : Run) (n : ℕ) (x : Triple) (out : List Float) → GoodRun run → Fit x → GoodT (answered run n x out)
 unfolding answered refusing
 answered-good run n x out g h =
-    eitherT (soundOf run) _ _ (eitherT (eqb (run .mark .count .number) n) _ _ (answered-at-good (waitingOf (run .mark)) (counted (run .mark .count)) (run .body) x out g h) (record { got = record { body = g } })) (record { got = record { body = g } })
+    eitherT (isSound run) _ _ (eitherT (eqb (run .mark .count .number) n) _ _ (answered-at-good (waitsAt (run .mark)) (nextCount (run .mark .count)) (run .body) x out g h) (record { got = record { body = g } })) (record { got = record { body = g } })
+
+started-by-good : (v : Verdict) (p : Plan) (r0 v0 : Triple) → FitPlan p → Fit r0 → Fit v0 → GoodA (startedBy v p r0 v0)
+unfolding startedBy
+started-by-good Fine p r0 v0 h r v = asking-good Epoch _ _ (fresh-good p r0 v0 h r v)
+started-by-good (Refuse e) p r0 v0 h r v = ended-good _
 
 pub started-good : (s : Settings) (t0 tf : Float) (r0 v0 : Triple) → F (s .h) → F (s .«corrector_tol») → F (s .«startup_tol») → F t0 → F tf → Fit r0 → Fit v0 → GoodA (started s t0 tf r0 v0)
 unfolding started planOf
 started-good s t0 tf r0 v0 a b c d e r v =
-    either (withinLimits s) _ _
-    (either (tooNear (planOf s t0 tf)) _ _ (ended-good _)
-    (asking-good Epoch _ _ (fresh-good _ r0 v0 (record { step = a; corrector = b; startup = c; t0 = d; tf = e; h = mul-fits binary64 _ _ }) r v)))
-    (ended-good _)
+    started-by-good (verdictOn (planOf s t0 tf)) (planOf s t0 tf) r0 v0 (record { step = a; corrector = b; startup = c; t0 = d; tf = e; h = mul-fits binary64 _ _ }) r v

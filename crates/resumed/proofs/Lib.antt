@@ -1,7 +1,6 @@
-pub mod Same
-pub mod Carried
 pub mod Fitting
 pub mod Good
 pub mod Machine
+pub mod Same
 pub mod Lines
-pub mod Ended
+pub mod Older

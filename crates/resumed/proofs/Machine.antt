@@ -1,9 +1,10 @@
--- Every run of a line is as the machine has it.
+-- A run as the machine has it: every float is an f64, every row has nine.
 use mathlib.Core.Path.{_≡_, refl, sym, _∙_, ap}
 use Prim.Native.Nat.{ℕ, _*_, _+_, _/_, _%_, _<_}
 use mathlib.Core.Bool.{Bool, true, false, cond}
 use mathlib.Core.List.{List, [], _∷_}
 use lib.Dec.{eqb}
+use lib.ListN.{length}
 use lib.Ieee.{Float, binary64}
 use lib.Ieee.Fits.{cond-fits}
 use Rattle.triple.specs.declared.Triple.{Triple}
@@ -11,18 +12,16 @@ use Rattle.triple.specs.Arithmetic.{nought}
 use Rattle.triple.specs.Nine.{at}
 use Rattle.run.specs.declared.Body.{Body}
 use Rattle.run.specs.declared.Run.{Run}
-use Rattle.run.specs.Waiting.{waitingOf}
-use Rattle.run.specs.Counting.{soundOf}
+use Rattle.run.specs.Waiting.{waitsAt}
+use Rattle.run.specs.Sound.{isSound}
 use Rattle.gauss_jackson.specs.Answers.{answered}
 use Rattle.blocks.specs.Rows.{row}
 use Rattle.stored.specs.declared.layout.Uses.{Uses}
 use Rattle.stored.specs.Layout.{usesOf, used, triplesOf, component, floatNo}
 use Rattle.stored.specs.Taken.{bodyFrom}
-use Rattle.stored.specs.Trips.{keptFloat, keptTriple, cleaned}
-use Rattle.resumed.specs.Lines.{Event, call, carry, carried, Machine, Machines, CallsDoubles}
+use Rattle.stored.specs.Trips.{Floats, keptFloat, keptTriple, cleaned}
 use Rattle.resumed.proofs.Fitting.{F, Fit, All, all-at, nine-row, nought-fits}
-use Rattle.resumed.proofs.Good.{Good, GoodRun, answered-good}
-use Rattle.resumed.proofs.Carried.{carried-is}
+use Rattle.resumed.proofs.Good.{Good, GoodRun}
 
 all-fit : (b : Body) → Good b → All (triplesOf b)
 unfolding triplesOf
@@ -37,7 +36,13 @@ floats-fit : (b : Body) → Good b → (k : ℕ) → F (floatNo (triplesOf b) k)
 unfolding floatNo
 floats-fit b g k = component-fit _ (k % 3) (all-at (triplesOf b) (all-fit b g) (k / 3))
 
-machine : (run : Run) → GoodRun run → Machine run
+pub record Machine (run : Run) : Type 0 where
+  pub floats : Floats run
+  pub r : length (run .body .places .r) ≡ 9
+  pub v : length (run .body .places .v) ≡ 9
+  pub a : length (run .body .a) ≡ 9
+
+pub machine : (run : Run) → GoodRun run → Machine run
 machine run g = record { floats = λ (k : ℕ) (h : k < 123). floats-fit (run .body) g k; r = g .places .r .nine; v = g .places .v .nine; a = g .a .nine }
 
 -- what is taken up again
@@ -50,10 +55,10 @@ kept-fit u ts h q =
       z = cond-fits binary64 (used u (3 * q + 2)) _ nought (h (3 * q + 2)) nought-fits;
     }
 
-clean-good : (run : Run) → GoodRun run → GoodRun (cleaned run)
+pub clean-good : (run : Run) → GoodRun run → GoodRun (cleaned run)
 unfolding cleaned bodyFrom row
 clean-good run g =
-    let k = kept-fit (usesOf (waitingOf (run .mark))) (triplesOf (run .body)) (floats-fit (run .body) g) in
+    let k = kept-fit (usesOf (waitsAt (run .mark))) (triplesOf (run .body)) (floats-fit (run .body) g) in
     record {
       plan = record { step = k 39 .x; corrector = k 39 .y; startup = k 39 .z; t0 = k 40 .x; tf = k 40 .y; h = k 40 .z };
       places =
@@ -67,16 +72,3 @@ clean-good run g =
       track = record { t = k 38 .z; state = record { r = k 30; v = k 31 }; sums = record { s = k 32; S = k 33 } };
       trial = record { state = record { r = k 34; v = k 35 }; fa = k 36; fb = k 37 };
     }
-
-carried-good : (run : Run) → GoodRun run → GoodRun (carried run)
-carried-good run g = go (soundOf run) refl
-  where
-    go : (d : Bool) → soundOf run ≡ d → GoodRun (carried run)
-    go true t = rw (carried-is run t (machine run g)) (clean-good run g)
-    go false t = unfold carried in rw t g
-
-pub machines : (es : List Event) (run : Run) → GoodRun run → CallsDoubles es → Machines run es
-unfolding Machines CallsDoubles
-machines [] run g h = tt
-machines (call c ∷ es) run g h = machines es _ (answered-good run (c .number) (c .a) (c .out) g (h .0) .got .body) (h .1)
-machines (carry ∷ es) run g h = (machine run g, machines es (carried run) (carried-good run g) h)

@@ -1,1 +1,3 @@
+pub mod Outside
 pub mod Lines
+pub mod Older

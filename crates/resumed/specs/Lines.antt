@@ -1,91 +1,84 @@
--- W-201: "Demands 2 and 3 then speak of one line of answers from the start, storings and loadings included."
--- The proof is `follows-with-storings` in proofs/Lines.antt.
+-- W-201: "Demands 2 and 3 then speak of one line of answers from the start, storings and loadings included. Taking up an older form drops the
+-- answers accepted since: they no longer count and are asked again."
+-- The proof is `follows-with-forms` in proofs/Lines.antt.
 use mathlib.Core.Path.{_≡_}
 use Prim.Native.Nat.{ℕ}
-use mathlib.Core.Bool.{cond}
-use mathlib.Core.List.{List, [], _∷_}
-use lib.ListN.{length, replicate}
-use lib.Dec.{T}
-use lib.Ieee.{Float, binary64, fits}
+use mathlib.Core.List.{List, [], _∷_, _++_}
+use lib.ListN.{getD, replicate}
+use lib.Ieee.{Float}
 use Rattle.triple.specs.declared.Triple.{Triple}
+use Rattle.refusals.specs.Numbers.{numberOf}
+use Rattle.refusals.specs.declared.Refusal.the-variants.{StoredShape}
+use Rattle.refusals.specs.declared.Told.{Told}
+use Rattle.refusals.specs.declared.Told.the-variants.{Written, Refused}
 use Rattle.run.specs.declared.Settings.{Settings}
 use Rattle.run.specs.declared.Run.{Run}
-use Rattle.run.specs.Counting.{soundOf}
+use Rattle.gauss_jackson.specs.declared.Answered.{Answered}
 use Rattle.gauss_jackson.specs.Answers.{answered, started}
-use Rattle.rules.specs.Walk.{Call, Result, walk, begin}
+use Rattle.rules.specs.Walk.{question, refused, told, Call, Result, Line, open-at, over, Stop, called, begin}
 use Rattle.rules.specs.Follows.{heard}
-use Rattle.rules.specs.Follows as plain
-use Rattle.stored.specs.Stored.{storedIn, loaded}
-use Rattle.stored.specs.Trips.{Floats}
+use Rattle.stored.specs.Stored.{storing, storedIn, loaded}
+use Rattle.resumed.specs.Outside.{Doubles, Outside}
 
--- what befalls a run: a call of `answer`, or a storing and a loading
+-- what befalls a run: a call of `answer`; the run is put away as a further form; form k, counted from 0, is taken up
 pub data Event : Type 0 where
   call : Call → Event
-  carry : Event
+  put-away : Event
+  take-up : ℕ → Event
 
--- the run that is taken up again. Where `store` says 7 nothing was put away, and the run stays.
-unfoldable pub carried : Run → Run
-carried run = cond (soundOf run) (loaded (storedIn run (replicate 2048 0)) .run) run
+-- ---- the functions: each event on the run and the forms that the one before left
+-- a buffer for a form
+abbrev pub blank : List ℕ
+blank = replicate 2048 0
 
--- events one after the other, each on the run that the one before left: what the calls have to tell
-unfoldable pub played : Run → List Event → List Result
-played run [] = []
-played run (call c ∷ es) = heard (answered run (c .number) (c .a) (c .out)) ∷ played (answered run (c .number) (c .a) (c .out) .got .run) es
-played run (carry ∷ es) = played (carried run) es
+-- where `store` refuses there is no further form
+unfoldable pub addedBy : Told → (form : List ℕ) → (forms : List (List ℕ)) → List (List ℕ)
+addedBy Written form forms = forms ++ (form ∷ [])
+addedBy (Refused e) form forms = forms
 
--- the calls alone
-unfoldable pub callsOf : List Event → List Call
-callsOf [] = []
-callsOf (call c ∷ es) = c ∷ callsOf es
-callsOf (carry ∷ es) = callsOf es
+unfoldable pub added : Run → List (List ℕ) → List (List ℕ)
+added run forms = addedBy (storing run blank) (storedIn run blank) forms
 
--- an f64
-abbrev pub Double : Float → Type 0
-Double x = T (fits binary64 x)
+-- what the caller has of a loading
+abbrev pub loadHeard : Answered → Result
+loadHeard x = record { said = told (x .outcome); out = [] }
 
-pub record Doubles (t : Triple) : Type 0 where
-  pub x : Double (t .x)
-  pub y : Double (t .y)
-  pub z : Double (t .z)
+-- what the calls and the loadings have to tell
+unfoldable pub played : Run → (forms : List (List ℕ)) → List Event → List Result
+played run forms [] = []
+played run forms (call c ∷ es) =
+    heard (answered run (c .number) (c .a) (c .out)) ∷ played (answered run (c .number) (c .a) (c .out) .got .run) forms es
+played run forms (put-away ∷ es) = played run (added run forms) es
+played run forms (take-up k ∷ es) = loadHeard (loaded run (getD forms k [])) ∷ played (loaded run (getD forms k []) .run) forms es
 
--- a run as the machine has it: every float is an f64, every row has nine
-pub record Machine (run : Run) : Type 0 where
-  pub floats : Floats run
-  pub r : length (run .body .places .r) ≡ 9
-  pub v : length (run .body .places .v) ≡ 9
-  pub a : length (run .body .a) ≡ 9
+-- ---- the rules: each event on the line and the places of lines that were kept
+-- where no question is open there is nothing to keep
+unfoldable pub kept : Line → List Line → List Line
+kept (open-at n e q k) ls = ls ++ (open-at n e q k ∷ [])
+kept over ls = ls
 
--- each run that is put away is one
-unfoldable pub Machines : Run → List Event → Type 0
-Machines run [] = Unit {0}
-Machines run (call c ∷ es) = Machines (answered run (c .number) (c .a) (c .out) .got .run) es
-Machines run (carry ∷ es) = Machine run × Machines (carried run) es
+-- back to the place that was kept: its question is told again, and the count of answers is what it was there
+unfoldable pub backTo : (kept line : Line) → Stop
+backTo (open-at n e q k) line = record { said = question n q; out = []; line = open-at n e q k }
+backTo over line = record { said = refused (numberOf StoredShape); out = []; line = line }
 
+unfoldable pub followed : Line → (places : List Line) → List Event → List Result
+followed l places [] = []
+followed l places (call c ∷ es) = record { said = called l c .said; out = called l c .out } ∷ followed (called l c .line) places es
+followed l places (put-away ∷ es) = followed l (kept l places) es
+followed l places (take-up k ∷ es) =
+    let x = backTo (getD places k over) l in record { said = x .said; out = x .out } ∷ followed (x .line) places es
+
+-- ---- the statement
 -- the accelerations of the calls are f64
 unfoldable pub CallsDoubles : List Event → Type 0
 CallsDoubles [] = Unit {0}
 CallsDoubles (call c ∷ es) = Doubles (c .a) × CallsDoubles es
-CallsDoubles (carry ∷ es) = CallsDoubles es
+CallsDoubles (put-away ∷ es) = CallsDoubles es
+CallsDoubles (take-up k ∷ es) = CallsDoubles es
 
--- what comes from outside is f64, as Rattle's types have it
-pub record Outside (s : Settings) (t0 tf : Float) (r0 v0 : Triple) (es : List Event) : Type 0 where
-  pub step : Double (s .h)
-  pub corrector : Double (s .«corrector_tol»)
-  pub startup : Double (s .«startup_tol»)
-  pub start : Double t0
-  pub end : Double tf
-  pub position : Doubles r0
-  pub velocity : Doubles v0
-  pub answers : CallsDoubles es
-
--- for every start and every list of events: the calls are told, and leave in their buffers, what the rules give for the calls alone
-abbrev pub FollowsWithStorings : Type 0
-FollowsWithStorings =
-    (s : Settings) (t0 tf : Float) (r0 v0 : Triple) (es : List Event) → Outside s t0 tf r0 v0 es
-    → played (started s t0 tf r0 v0 .run) es ≡ walk (begin s t0 tf r0 v0 .line) (callsOf es)
-
--- so the calls are told what they would be told without the storings: what is proved of lines of calls, demand 3 too, is proved of these lines
-abbrev pub StoringsChangeNothing : Type 0
-StoringsChangeNothing =
-    (s : Settings) (t0 tf : Float) (r0 v0 : Triple) (es : List Event) → Outside s t0 tf r0 v0 es
-    → played (started s t0 tf r0 v0 .run) es ≡ plain.played (started s t0 tf r0 v0 .run) (callsOf es)
+-- for every start and every list of events: what is told, and left in the buffers, is what the rules give
+abbrev pub FollowsWithForms : Type 0
+FollowsWithForms =
+    (s : Settings) (t0 tf : Float) (r0 v0 : Triple) (es : List Event) → Outside s t0 tf r0 v0 → CallsDoubles es
+    → played (started s t0 tf r0 v0 .run) [] es ≡ followed (begin s t0 tf r0 v0 .line) [] es

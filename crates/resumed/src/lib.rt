@@ -1,1 +1,2 @@
-// Whole lines of answers with storings and loadings between them (W-201): definitions and theorems, no code.
+// SPDX-License-Identifier: MIT OR Apache-2.0
+// A line of calls with storings and loadings follows the rules (W-201). No code: theorems over the crates below.

@@ -29,7 +29,7 @@ use Rattle.rules.proofs.Rest.{restAt, rest, opened, lineOf, seen}
 use Rattle.rules.proofs.Calls.{call-is}
 use Rattle.rules.proofs.Follows.{begun, begins}
 
-isOpen : Line → Bool
+unfoldable pub isOpen : Line → Bool
 isOpen (open-at n e q k) = true
 isOpen over = false
 
@@ -39,7 +39,7 @@ isAsked (finished t y e steps startups) = false
 isAsked (refused n) = false
 
 -- the question at which a line stands
-standing : Line → Said
+unfoldable pub standing : Line → Said
 standing (open-at n e q k) = question n q
 standing over = refused 7
 
@@ -99,7 +99,7 @@ never-seven =
     }
 
 -- ---- the open question, told again
-standing-is : (run : Run) → told (openQuestion run) ≡ standing (lineOf run)
+pub standing-is : (run : Run) → told (openQuestion run) ≡ standing (lineOf run)
 unfolding openQuestion questionOf told standing lineOf opened rest restAt
 standing-is run = go (isSound run)
   where

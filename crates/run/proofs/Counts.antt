@@ -198,7 +198,11 @@ rank-le i = go (ltb i 4)
 pub few : (s : Settings) (n : ℕ) → n < s .«max_steps» → Small s → (n - 4) * (1 + s .«max_corrector_iters») ≤ maxSteps * (1 + maxPasses)
 few s n m h = mul-le-mul {n₂ = maxSteps} {m₂ = 1 + maxPasses} (omega (arith, h .steps)) (omega (arith, h .passes))
 
-answers-small : (w : Waiting) (e : ℕ) (b : Body) → Small (b .plan .settings) → Counts w e b → e < ample
+-- the most that can be accepted before an open question: the startup and its passes, the passes of the open step, all steps before it
+abbrev pub mostEvals : ℕ
+mostEvals = 41 + 8 * maxPasses + maxPasses + maxSteps * (1 + maxPasses)
+
+answers-small : (w : Waiting) (e : ℕ) (b : Body) → Small (b .plan .settings) → Counts w e b → e ≤ mostEvals
 answers-small Epoch e b s c = omega arith
 answers-small (Forward i First) e b s c = omega arith
 answers-small (Forward i Second) e b s c = omega arith
@@ -219,8 +223,11 @@ answers-small TailSample e b s c = omega (arith, few _ _ (c .1) s, c .2 .started
 answers-small Ended e b s c = absurd c
 answers-small Unknown e b s c = absurd c
 
+pub evals-few : (run : Run) → isSound run ≡ true → run .mark .count .evals ≤ mostEvals
+evals-few run t = let f = to-facts run t in answers-small (waitsAt (run .mark)) (run .mark .count .evals) (run .body) (to-small (run .body .plan .settings) (f .limited)) (f .counted)
+
 pub evals-small : (run : Run) → isSound run ≡ true → run .mark .count .evals < ample
-evals-small run t = let f = to-facts run t in answers-small (waitsAt (run .mark)) (run .mark .count .evals) (run .body) (to-small (run .body .plan .settings) (f .limited)) (f .counted)
+evals-small run t = omega (arith, evals-few run t)
 
 ready-at : (w : Waiting) (e : ℕ) (b : Body) → Small (b .plan .settings) → Counts w e b → Ready w b
 ready-at Epoch e b s c = tt

@@ -1,4 +1,4 @@
--- "Storing a loaded form gives the same bytes": word for word, the content of a content's run is the content.
+-- "Storing a loaded form gives the same bytes": word for word, the content of a content's run is the content, but for the patterns of NaN.
 use mathlib.Core.Path.{_≡_, refl, sym, _∙_, ap, ap₂}
 use mathlib.Core.Logic.{_≢_, ⊎-elim}
 use Prim.Native.Nat.{ℕ, zero, suc, _+_, _-_, _*_, _/_, _%_, _^_, _≤_, _<_}
@@ -10,12 +10,12 @@ use lib.Dec.{T, eqb, ltb, leb}
 use lib.ListN.{length, getD}
 use lib.Ieee.{Float, nan, inf, fin, binary64, isNan, toBits, ofBits}
 use lib.Ieee.Bits.{toBits-ofBits}
-use borrow.Author.Tests.{eq-eqb, ne-eqb, lt-ltb, le-ltb, eqb-true, eqb-false, ltb-true, ltb-false}
+use borrow.Author.Tests.{eq-eqb, ne-eqb, lt-ltb, le-ltb, lt-leb, le-leb, eqb-true, eqb-false, ltb-true, ltb-false}
 use Rattle.triple.specs.declared.Triple.{Triple}
 use Rattle.triple.specs.Nine.{at}
 use Rattle.triple.specs.Arithmetic.{nought, zeros}
 use Rattle.triple.proofs.Tests.{fails}
-use Rattle.run.specs.Waiting.{waitingOf}
+use Rattle.run.specs.Waiting.{waitsAt}
 use Rattle.blocks.specs.Rows.{row}
 use Rattle.blocks.specs.Trips.{Below}
 use Rattle.blocks.proofs.Filled.{at-row, row-of, same-row}
@@ -24,8 +24,9 @@ use Rattle.stored.specs.declared.layout.Uses.{Uses}
 use Rattle.stored.specs.Layout.{usesOf, used, triplesOf, component, floatNo}
 use Rattle.stored.specs.Content.{headOf, countsIn, half, floatWord, contentWord, contentFrom, contentOfRun}
 use Rattle.stored.specs.Taken.{floatAt, tripleAt, triplesIn, countsAt, bodyFrom, runOf, wordUsed, stillZero, unusedIsZero}
-use Rattle.stored.specs.Trips.{patternAt, Quiet}
+use Rattle.stored.specs.Trips.{quietNan, isNanWord, quietWord, quieted}
 use Rattle.stored.proofs.Known.{Known}
+use Rattle.stored.proofs.Unused.{float-used, rest-unused}
 
 -- ---- a word that is not used is zero
 still : (z d : Bool) (w : ℕ) → stillZero z d w ≡ true → (z ≡ true) × (d ≡ false → w ≡ 0)
@@ -65,11 +66,14 @@ module _ (g : ℕ → Float) where
       ∙ ap g (omega arith)
 
 -- the triples of a body made of triples
-pub triples-back : (f : ℕ → Triple) (n : List ℕ) (s : Bool) → triplesOf (bodyFrom (row f 41) n s) ≡ row f 41
+pub triples-back : (f : ℕ → Triple) (n : List ℕ) (s : ℕ) → triplesOf (bodyFrom (row f 41) n s) ≡ row f 41
 unfolding triplesOf bodyFrom row
 triples-back f n s = refl
 
 -- ---- the two words of a pattern
+abbrev patternAt : List ℕ → ℕ → ℕ
+patternAt c k = getD c (6 + 2 * k) 0 + 2 ^ 32 * getD c (6 + 2 * k + 1) 0
+
 pub half-low : (a b : ℕ) → a < 2 ^ 32 → half (a + 2 ^ 32 * b) 0 ≡ a
 unfolding half
 half-low a b h = omega arith
@@ -78,38 +82,47 @@ pub half-high : (a b : ℕ) → a < 2 ^ 32 → half (a + 2 ^ 32 * b) 1 ≡ b
 unfolding half
 half-high a b h = omega arith
 
--- ---- a pattern whose float is stored with the same bits
-nan-quiet : (x : Float) → isNan x ≡ true → toBits binary64 x ≡ 0x7ff8_0000_0000_0000
+-- ---- the bits of the float of a pattern
+nan-quiet : (x : Float) → isNan x ≡ true → toBits binary64 x ≡ quietNan
 unfolding isNan toBits
 nan-quiet nan e = refl
 nan-quiet (inf s) e = apart e
 nan-quiet (fin s m d) e = apart e
 
-bits-back : (n : ℕ) → n < 2 ^ 64 → (isNan (ofBits binary64 n) ≡ true → n ≡ 0x7ff8_0000_0000_0000) → toBits binary64 (ofBits binary64 n) ≡ n
-bits-back n h q = go (isNan (ofBits binary64 n)) refl
+zero-no-nan : (c : List ℕ) (k : ℕ) → getD c (6 + 2 * k) 0 ≡ 0 → getD c (6 + 2 * k + 1) 0 ≡ 0 → isNan (floatAt c k) ≡ false
+unfolding floatAt ofBits isNan
+zero-no-nan c k p q = rw (p, q)
+
+bits-back : (n : ℕ) → n < 2 ^ 64 → toBits binary64 (ofBits binary64 n) ≡ cond (isNan (ofBits binary64 n)) quietNan n
+bits-back n h = go (isNan (ofBits binary64 n)) refl
   where
-    go : (d : Bool) → isNan (ofBits binary64 n) ≡ d → toBits binary64 (ofBits binary64 n) ≡ n
-    go true e = nan-quiet (ofBits binary64 n) e ∙ sym (q e)
+    go : (d : Bool) → isNan (ofBits binary64 n) ≡ d → toBits binary64 (ofBits binary64 n) ≡ cond d quietNan n
+    go true e = nan-quiet (ofBits binary64 n) e
     go false e = toBits-ofBits binary64 n h (fails e)
 
-module _ (c : List ℕ) (size : length c ≡ 504) (small : Below (2 ^ 32) c) (known : Known c) (zero-rest : unusedIsZero c (usesOf (waitingOf (runOf c .mark))) 504 ≡ true) (quiet : Quiet c) where
+module _ (c : List ℕ) (size : length c ≡ 504) (small : Below (2 ^ 32) c) (known : Known c) (zero-rest : unusedIsZero c (usesOf (waitsAt (runOf c .mark))) 504 ≡ true) where
   abbrev u : Uses
-  u = usesOf (waitingOf (runOf c .mark))
+  u = usesOf (waitsAt (runOf c .mark))
 
   unused : (j : ℕ) → j < 504 → wordUsed u j ≡ false → getD c j 0 ≡ 0
   unused j h f = unused-zero c u 504 j zero-rest h f
 
-  float-back : (k : ℕ) → k < 123 → toBits binary64 (floatNo (triplesOf (runOf c .body)) k) ≡ patternAt c k
+  float-back : (k : ℕ) → k < 123 → toBits binary64 (floatNo (triplesOf (runOf c .body)) k) ≡ cond (isNan (floatAt c k)) quietNan (patternAt c k)
   unfolding runOf triplesIn tripleAt floatAt
   float-back k h =
-      ap (λ (ts : List Triple). toBits binary64 (floatNo ts k)) (triples-back (tripleAt c) (countsAt c) (eqb (getD c 5 0) 1))
+      ap (λ (ts : List Triple). toBits binary64 (floatNo ts k)) (triples-back (tripleAt c) (countsAt c) (getD c 5 0))
       ∙ ap (toBits binary64) (float-row (floatAt c) k h)
-      ∙ bits-back (patternAt c k) (omega (arith, small (6 + 2 * k), small (6 + 2 * k + 1))) (quiet k h)
+      ∙ bits-back (patternAt c k) (omega (arith, small (6 + 2 * k), small (6 + 2 * k + 1)))
 
   -- ---- each word
-  float-word : (j : ℕ) → 6 ≤ j → j < 252 → floatWord u (triplesOf (runOf c .body)) (j - 6) ≡ getD c j 0
-  unfolding floatWord wordUsed
-  float-word j l h = go (used u ((j - 6) / 2)) refl
+  -- outside the floats no word belongs to a NaN
+  plain-word : (j : ℕ) → leb 6 j && ltb j 252 ≡ false → quietWord c j ≡ getD c j 0
+  unfolding quietWord isNanWord
+  plain-word j e = rw e
+
+  float-word : (j : ℕ) → 6 ≤ j → j < 252 → floatWord u (triplesOf (runOf c .body)) (j - 6) ≡ quietWord c j
+  unfolding floatWord quietWord isNanWord
+  float-word j l h = rw (le-leb 6 j l, lt-ltb j 252 h) (go (used u ((j - 6) / 2)) refl)
     where
       k : ℕ
       k = (j - 6) / 2
@@ -119,11 +132,22 @@ module _ (c : List ℕ) (size : length c ≡ 504) (small : Below (2 ^ 32) c) (kn
       side (suc zero) e h = half-high _ _ (small (6 + 2 * k)) ∙ ap (λ (n : ℕ). getD c n 0) (omega arith)
       side (suc (suc i)) e h = absurd (omega arith)
 
-      go : (d : Bool) → used u k ≡ d → cond d (half (toBits binary64 (floatNo (triplesOf (runOf c .body)) k)) ((j - 6) % 2)) 0 ≡ getD c j 0
-      go true e = ap (λ (n : ℕ). half n ((j - 6) % 2)) (float-back k (omega arith)) ∙ side ((j - 6) % 2) refl (omega arith)
-      go false e =
-          sym (unused j (omega arith)
-          (rw (ne-eqb j 2 (λ (z : j ≡ 2). omega arith), ne-eqb j 3 (λ (z : j ≡ 3). omega arith), le-ltb j 6 l, lt-ltb j 252 h) e))
+      stored : (n : Bool) → half (cond n quietNan (patternAt c k)) ((j - 6) % 2) ≡ cond n (half quietNan ((j - 6) % 2)) (getD c j 0)
+      stored true = refl
+      stored false = side ((j - 6) % 2) refl (omega arith)
+
+      nothing : used u k ≡ false → (i : ℕ) → i < 2 → getD c (6 + 2 * k + i) 0 ≡ 0
+      nothing e i b = unused (6 + 2 * k + i) (omega arith) (float-used u (6 + 2 * k + i) (omega arith) (omega arith) ∙ ap (used u) (omega arith) ∙ e)
+
+      no-nan : used u k ≡ false → isNan (floatAt c k) ≡ false
+      no-nan e =
+          let a : getD c (6 + 2 * k) 0 ≡ 0 = ap (λ (n : ℕ). getD c n 0) (omega arith) ∙ nothing e 0 (omega arith) in
+          zero-no-nan c k a (nothing e 1 (omega arith))
+
+      go : (d : Bool) → used u k ≡ d
+          → cond d (half (toBits binary64 (floatNo (triplesOf (runOf c .body)) k)) ((j - 6) % 2)) 0 ≡ cond (isNan (floatAt c k)) (half quietNan ((j - 6) % 2)) (getD c j 0)
+      go true e = ap (λ (n : ℕ). half n ((j - 6) % 2)) (float-back k (omega arith)) ∙ stored (isNan (floatAt c k))
+      go false e = rw (no-nan e) (sym (ap (λ (n : ℕ). getD c n 0) (omega arith) ∙ nothing e ((j - 6) % 2) (omega arith)))
 
   head-word : (j : ℕ) → j < 6 → getD (headOf (runOf c .mark) u (runOf c .body .plan .settings .samples)) j 0 ≡ getD c j 0
   unfolding headOf runOf bodyFrom wordUsed
@@ -140,11 +164,7 @@ module _ (c : List ℕ) (size : length c ≡ 504) (small : Below (2 ^ 32) c) (kn
       go true e = refl
       go false e = sym (unused 3 (omega arith) e)
   head-word (suc (suc (suc (suc zero)))) h = refl
-  head-word (suc (suc (suc (suc (suc zero))))) h = go (eqb (getD c 5 0) 1) refl
-    where
-      go : (d : Bool) → eqb (getD c 5 0) 1 ≡ d → cond d 1 0 ≡ getD c 5 0
-      go true e = sym (eqb-true _ _ e)
-      go false e = let z : getD c 5 0 ≢ 1 = eqb-false _ _ e in omega (arith, known .flag)
+  head-word (suc (suc (suc (suc (suc zero))))) h = refl
   head-word (suc (suc (suc (suc (suc (suc j)))))) h = absurd (omega arith)
 
   count-word : (i : ℕ) → i < 6 → getD (countsIn (runOf c)) i 0 ≡ getD c (252 + i) 0
@@ -158,23 +178,25 @@ module _ (c : List ℕ) (size : length c ≡ 504) (small : Below (2 ^ 32) c) (kn
   count-word (suc (suc (suc (suc (suc (suc i)))))) h = absurd (omega arith)
 
   word-back : (j : ℕ) → j < 504
-      → contentWord (headOf (runOf c .mark) u (runOf c .body .plan .settings .samples)) u (triplesOf (runOf c .body)) (countsIn (runOf c)) j ≡ getD c j 0
+      → contentWord (headOf (runOf c .mark) u (runOf c .body .plan .settings .samples)) u (triplesOf (runOf c .body)) (countsIn (runOf c)) j ≡ quietWord c j
   unfolding contentWord wordUsed
   word-back j h = first (ltb j 6) (ltb j 252) (ltb j 258) refl refl refl
     where
       first : (a b d : Bool) → ltb j 6 ≡ a → ltb j 252 ≡ b → ltb j 258 ≡ d
           → cond a (getD (headOf (runOf c .mark) u (runOf c .body .plan .settings .samples)) j 0)
-          (cond b (floatWord u (triplesOf (runOf c .body)) (j - 6)) (cond d (getD (countsIn (runOf c)) (j - 252) 0) 0)) ≡ getD c j 0
-      first true b d ea eb ed = head-word j (ltb-true _ _ ea)
+          (cond b (floatWord u (triplesOf (runOf c .body)) (j - 6)) (cond d (getD (countsIn (runOf c)) (j - 252) 0) 0)) ≡ quietWord c j
+      first true b d ea eb ed =
+          let l : j < 6 = ltb-true _ _ ea in
+          head-word j l ∙ sym (plain-word j (rw (lt-leb 6 j l)))
       first false true d ea eb ed = float-word j (ltb-false _ _ ea) (ltb-true _ _ eb)
       first false false true ea eb ed =
           let l : 252 ≤ j = ltb-false _ _ eb in
           let m : j < 258 = ltb-true _ _ ed in
-          count-word (j - 252) (omega arith) ∙ ap (λ (n : ℕ). getD c n 0) (omega arith)
+          count-word (j - 252) (omega arith) ∙ ap (λ (n : ℕ). getD c n 0) (omega arith) ∙ sym (plain-word j (rw (le-leb 6 j (omega arith), eb)))
       first false false false ea eb ed =
           let l : 258 ≤ j = ltb-false _ _ ed in
-          sym (unused j h (rw (ne-eqb j 2 (λ (z : j ≡ 2). omega arith), ne-eqb j 3 (λ (z : j ≡ 3). omega arith), ea, eb) ed))
+          sym (plain-word j (rw (le-leb 6 j (omega arith), eb)) ∙ unused j h (rest-unused u j l))
 
-  pub content-again : contentOfRun (runOf c) ≡ c
-  unfolding contentOfRun contentFrom
-  content-again = same-row _ (λ (j : ℕ). getD c j 0) 504 word-back ∙ row-of c 0 504 size
+  pub content-again : contentOfRun (runOf c) ≡ quieted c
+  unfolding contentOfRun contentFrom quieted
+  content-again = same-row _ (quietWord c) 504 word-back

@@ -3,7 +3,7 @@ use mathlib.Core.Path.{_≡_, refl, sym, _∙_, ap, ap₂}
 use Prim.Native.Nat.{ℕ, zero, suc, _+_, _-_, _*_, _/_, _%_, _^_, _≤_, _<_}
 use native.Mathlib.Nat.{div-add-mod'}
 use native.Mathlib.Omega.{arith}
-use mathlib.Core.Bool.{Bool, true, false, _&&_, cond}
+use mathlib.Core.Bool.{Bool, true, false, _&&_, _||_, cond}
 use mathlib.Core.List.{List, [], _∷_}
 use lib.Dec.{T, eqb, ltb, leb}
 use lib.ListN.{length, getD, List·getD-eq-default}
@@ -16,9 +16,9 @@ use Rattle.run.specs.declared.Body.{Body}
 use Rattle.run.specs.declared.Run.{Run}
 use Rattle.run.specs.declared.waiting.Waiting.{Waiting}
 use Rattle.run.specs.declared.waiting.Waiting.the-variants.{Epoch, Forward, Backward, Survey, Pass, Step, Tail, TailSample, Ended, Unknown}
-use Rattle.run.specs.Plan.{withinLimits}
-use Rattle.run.specs.Waiting.{atOf, indexOf, stageOf, markOf, waitingOf}
-use Rattle.run.specs.Counting.{idle, passCounts, startedUp, stepCounts, countsOf, soundOf}
+use Rattle.run.specs.Limits.{numbering, areWithinLimits, wantsSamples}
+use Rattle.run.specs.Waiting.{atNumber, indexNumber, stageAt, markAt, waitsAt}
+use Rattle.run.specs.Sound.{isIdle, passCounts, isStartedUp, stepCounts, hasCounts, isSound}
 use Rattle.run.proofs.Decoding.{read}
 use Rattle.run.proofs.Counts.{to-facts}
 use Rattle.blocks.specs.Rows.{row}
@@ -28,16 +28,14 @@ use Rattle.blocks.proofs.Filled.{length-row, at-row, same-row}
 use Rattle.blocks.proofs.Trips.{written-is-read}
 use Rattle.blocks.proofs.Whole.{apart}
 use Rattle.stored.specs.declared.layout.Uses.{Uses}
-use Rattle.stored.specs.declared.Told.the-variants.{Done}
-use Rattle.stored.specs.declared.Loaded.{Loaded}
 use Rattle.stored.specs.Layout.{line, usesOf, used, triplesOf, floatNo}
 use Rattle.stored.specs.Content.{headOf, countsIn, half, floatWord, contentWord, contentFrom, contentOfRun}
-use Rattle.stored.specs.Taken.{floatAt, tripleAt, triplesIn, countsAt, bodyFrom, runOf, isKnown, wordUsed, stillZero, unusedIsZero}
-use Rattle.stored.specs.Stored.{storedIn, loaded}
-use Rattle.stored.specs.Trips.{Floats, keptFloat, keptTriple, cleaned, LoadedAgain, StoredIsLoaded}
-use Rattle.stored.proofs.Small.{Modest, modest}
+use Rattle.stored.specs.Taken.{floatAt, tripleAt, triplesIn, countsAt, bodyFrom, runOf, isKnown, wordUsed, stillZero, unusedIsZero, isStoredRun}
+use Rattle.stored.specs.Stored.{storedIn, takenUp, judged, loaded}
+use Rattle.stored.specs.Trips.{Floats, keptFloat, keptTriple, cleaned, StoredIsLoaded}
+use Rattle.stored.proofs.Small.{Modest, modest, flag-small}
+use Rattle.stored.proofs.Parts.{head-part, float-part, count-part}
 use Rattle.stored.proofs.Heads.{headFor, Fits, head-is, head-fits}
-use Rattle.stored.proofs.Opened.{done}
 
 -- ---- a row of contents, whatever its parts
 module _ (head : List ℕ) (u : Uses) (ts : List Triple) (counts : List ℕ) where
@@ -49,20 +47,13 @@ module _ (head : List ℕ) (u : Uses) (ts : List Triple) (counts : List ℕ) whe
   word j h = at-row (contentWord head u ts counts) 504 j 0 h
 
   head-at : (j : ℕ) → j < 6 → getD content j 0 ≡ getD head j 0
-  unfolding contentWord
-  head-at j h = word j (omega arith) ∙ (rw (lt-ltb j 6 h))
+  head-at j h = word j (omega arith) ∙ head-part head u ts counts j h
 
   count-at : (i : ℕ) → i < 6 → getD content (252 + i) 0 ≡ getD counts i 0
-  unfolding contentWord
-  count-at i h =
-      word (252 + i) (omega arith)
-      ∙ (rw (le-ltb (252 + i) 6 (omega arith), le-ltb (252 + i) 252 (omega arith), lt-ltb (252 + i) 258 (omega arith)) (ap (λ (n : ℕ). getD counts n 0) (omega arith)))
+  count-at i h = word (252 + i) (omega arith) ∙ count-part head u ts counts i h
 
   float-at : (j : ℕ) → j < 246 → getD content (6 + j) 0 ≡ floatWord u ts j
-  unfolding contentWord
-  float-at j h =
-      word (6 + j) (omega arith)
-      ∙ (rw (le-ltb (6 + j) 6 (omega arith), lt-ltb (6 + j) 252 (omega arith)) (ap (floatWord u ts) (omega arith)))
+  float-at j h = word (6 + j) (omega arith) ∙ float-part head u ts counts j h
 
   -- what is not used is zero
   zero-word : getD head 2 0 ≡ cond (u .index) (getD head 2 0) 0 → getD head 3 0 ≡ cond (u .stage) (getD head 3 0) 0
@@ -137,14 +128,14 @@ unfolding unusedIsZero stillZero
 all-zero c u z zero h = refl
 all-zero c u z (suc n) h = rw (all-zero c u z n (omega arith)) (go (wordUsed u n) refl)
   where
-    go : (d : Bool) → wordUsed u n ≡ d → cond d true (eqb (getD c n 0) 0) ≡ true
+    go : (d : Bool) → wordUsed u n ≡ d → (d || eqb (getD c n 0) 0) ≡ true
     go true e = refl
     go false e = eq-eqb _ _ (z n (omega arith) e)
 
 -- ---- answer 7 looks at the counts alone
 counts-same : (w : Waiting) (e : ℕ) (b : Body) (f : List Triple)
-    → countsOf w e (bodyFrom f (b .plan .settings .«max_corrector_iters» ∷ b .plan .settings .«max_startup_iters» ∷ b .plan .settings .«max_steps» ∷ b .«startup_iters» ∷ b .track .steps ∷ e ∷ []) (b .plan .settings .samples)) ≡ countsOf w e b
-unfolding countsOf idle passCounts startedUp stepCounts bodyFrom
+    → hasCounts w e (bodyFrom f (b .plan .settings .«max_corrector_iters» ∷ b .plan .settings .«max_startup_iters» ∷ b .plan .settings .«max_steps» ∷ b .«startup_iters» ∷ b .track .steps ∷ e ∷ []) (b .plan .settings .samples)) ≡ hasCounts w e b
+unfolding hasCounts isIdle passCounts isStartedUp stepCounts wantsSamples bodyFrom
 counts-same Epoch e b f = refl
 counts-same (Forward i s) e b f = refl
 counts-same (Backward i s) e b f = refl
@@ -156,16 +147,12 @@ counts-same TailSample e b f = refl
 counts-same Ended e b f = refl
 counts-same Unknown e b f = refl
 
-pub sound-same : (run : Run) → soundOf (cleaned run) ≡ soundOf run
-unfolding soundOf cleaned withinLimits countsIn bodyFrom
-sound-same run = rw (read (waitingOf (run .mark)) (run .mark .count)) (unfold bodyFrom in ap (λ (x : Bool). withinLimits (run .body .plan .settings) && eqb (run .mark .count .number) (run .mark .count .evals % 65536) && x) (counts-same (waitingOf (run .mark)) (run .mark .count .evals) (run .body) (row (keptTriple (usesOf (waitingOf (run .mark))) (triplesOf (run .body))) 41)))
+pub sound-same : (run : Run) → isSound (cleaned run) ≡ isSound run
+unfolding isSound cleaned areWithinLimits countsIn bodyFrom
+sound-same run = rw (read (waitsAt (run .mark)) (run .mark .count)) (unfold bodyFrom in ap (λ (x : Bool). areWithinLimits (run .body .plan .settings) && eqb (run .mark .count .number) (run .mark .count .evals % numbering) && x) (counts-same (waitsAt (run .mark)) (run .mark .count .evals) (run .body) (row (keptTriple (usesOf (waitsAt (run .mark))) (triplesOf (run .body))) 41)))
 
 -- ---- the round trip
-flag-back : (s : Bool) → eqb (cond s 1 0) 1 ≡ s
-flag-back true = refl
-flag-back false = refl
-
-index-kept : (w : Waiting) → indexOf w ≡ cond (usesOf w .index) (indexOf w) 0
+index-kept : (w : Waiting) → indexNumber w ≡ cond (usesOf w .index) (indexNumber w) 0
 unfolding usesOf line
 index-kept Epoch = refl
 index-kept (Forward i s) = refl
@@ -178,7 +165,7 @@ index-kept TailSample = refl
 index-kept Ended = refl
 index-kept Unknown = refl
 
-stage-kept : (w : Waiting) → stageOf w ≡ cond (usesOf w .stage) (stageOf w) 0
+stage-kept : (w : Waiting) → stageAt w ≡ cond (usesOf w .stage) (stageAt w) 0
 unfolding usesOf line
 stage-kept Epoch = refl
 stage-kept (Forward i s) = refl
@@ -191,11 +178,11 @@ stage-kept TailSample = refl
 stage-kept Ended = refl
 stage-kept Unknown = refl
 
-module _ (run : Run) (sound : soundOf run ≡ true) (floats : Floats run) where
+module _ (run : Run) (sound : isSound run ≡ true) (floats : Floats run) where
   abbrev w : Waiting
-  w = waitingOf (run .mark)
+  w = waitsAt (run .mark)
 
-  abbrev s : Bool
+  abbrev s : ℕ
   s = run .body .plan .settings .samples
 
   abbrev head : List ℕ
@@ -238,30 +225,26 @@ module _ (run : Run) (sound : soundOf run ≡ true) (floats : Floats run) where
   run-is : runOf c ≡ cleaned run
   unfolding runOf cleaned
   run-is =
-      let a : getD c 1 0 ≡ atOf w = head-word 1 (omega arith) in
-      let i : getD c 2 0 ≡ indexOf w = head-word 2 (omega arith) in
-      let t : getD c 3 0 ≡ stageOf w = head-word 3 (omega arith) in
+      let a : getD c 1 0 ≡ atNumber w = head-word 1 (omega arith) in
+      let i : getD c 2 0 ≡ indexNumber w = head-word 2 (omega arith) in
+      let t : getD c 3 0 ≡ stageAt w = head-word 3 (omega arith) in
       let n : getD c 4 0 ≡ run .mark .count .number = head-word 4 (omega arith) in
-      let f : getD c 5 0 ≡ cond s 1 0 = head-word 5 (omega arith) in
+      let f : getD c 5 0 ≡ s = head-word 5 (omega arith) in
       let e : getD c 257 0 ≡ run .mark .count .evals = unfold countsIn in count-word 5 (omega arith) in
-      rw (a, i, t, n, f, e, flag-back s, triples-are, counts-are)
+      rw (a, i, t, n, f, e, triples-are, counts-are)
 
   is-known : isKnown c ≡ true
   unfolding isKnown
   is-known =
       let z : getD c 0 0 ≡ 1 = head-word 0 (omega arith) in
-      let a : getD c 1 0 ≡ atOf w = head-word 1 (omega arith) in
-      let i : getD c 2 0 ≡ indexOf w = head-word 2 (omega arith) in
-      let t : getD c 3 0 ≡ stageOf w = head-word 3 (omega arith) in
+      let a : getD c 1 0 ≡ atNumber w = head-word 1 (omega arith) in
+      let i : getD c 2 0 ≡ indexNumber w = head-word 2 (omega arith) in
+      let t : getD c 3 0 ≡ stageAt w = head-word 3 (omega arith) in
       let n : getD c 4 0 ≡ run .mark .count .number = head-word 4 (omega arith) in
-      let f : getD c 5 0 ≡ cond s 1 0 = head-word 5 (omega arith) in
+      let f : getD c 5 0 ≡ s = head-word 5 (omega arith) in
       let fit = head-fits run sound in
       let m = to-facts run sound .numbered in
-      rw (z, a, i, t, n, f, le-leb 1 _ (fit .some), le-leb _ 8 (fit .at), le-leb _ 255 (fit .index), le-leb _ 255 (fit .stage), le-leb (run .mark .count .number) 65535 (omega arith)) (flag-small s)
-    where
-      flag-small : (d : Bool) → leb (cond d 1 0) 1 ≡ true
-      flag-small true = refl
-      flag-small false = refl
+      rw (z, a, i, t, n, f, le-leb 1 _ (fit .some), le-leb _ 8 (fit .at), le-leb _ 255 (fit .index), le-leb _ 255 (fit .stage), le-leb (run .mark .count .number) 65535 (omega arith), le-leb s 1 (flag-small run sound))
 
   is-small : Below (2 ^ 32) c
   is-small = small-words head (usesOf w) (triplesOf (run .body)) (countsIn run) heads floats nums
@@ -269,17 +252,13 @@ module _ (run : Run) (sound : soundOf run ≡ true) (floats : Floats run) where
       fit : Fits w
       fit = head-fits run sound
 
-      flag-small : (d : Bool) → cond d 1 0 < 2 ^ 32
-      flag-small true = omega arith
-      flag-small false = omega arith
-
       heads : (j : ℕ) → j < 6 → getD head j 0 < 2 ^ 32
       heads zero h = omega arith
       heads (suc zero) h = omega (arith, fit .at)
       heads (suc (suc zero)) h = omega (arith, fit .index)
       heads (suc (suc (suc zero))) h = omega (arith, fit .stage)
       heads (suc (suc (suc (suc zero)))) h = omega (arith, to-facts run sound .numbered)
-      heads (suc (suc (suc (suc (suc zero))))) h = flag-small s
+      heads (suc (suc (suc (suc (suc zero))))) h = omega (arith, flag-small run sound)
       heads (suc (suc (suc (suc (suc (suc j)))))) h = absurd (omega arith)
 
       nums : (i : ℕ) → i < 6 → getD (countsIn run) i 0 < 2 ^ 32
@@ -304,20 +283,12 @@ module _ (run : Run) (sound : soundOf run ≡ true) (floats : Floats run) where
   unfolding contentFrom
   length-is = length-row (contentWord head (usesOf w) (triplesOf (run .body)) (countsIn run)) 504
 
-  loaded-is : loaded (form c) ≡ record { told = Done; run = cleaned run }
-  unfolding cleaned
-  loaded-is =
-      let a = written-is-read c length-is is-small in
-      let z : unusedIsZero (contentOf (form c)) (usesOf (waitingOf (runOf (contentOf (form c)) .mark))) 504 ≡ true =
-      rw (a .same, run-is) (rw (read w (run .mark .count)) zeros) in
-      done (form c) (a .whole) (rw (a .same) is-known) z (rw (a .same, run-is) (sound-same run ∙ sound))
-      ∙ (rw (a .same, run-is))
+  stored-run : isStoredRun c ≡ true
+  unfolding isStoredRun cleaned
+  stored-run = rw (is-known, run-is) (rw (read w (run .mark .count)) (rw zeros (sound-same run ∙ sound)))
 
 pub stored-is-loaded : StoredIsLoaded
-unfolding storedIn written
-stored-is-loaded run out t floats e =
-    let l = loaded-is run t floats in
-    record {
-      told = rw (t, eq-eqb _ _ e, content-is run t floats) (ap (λ (x : Loaded). x .told) l);
-      same = rw (t, eq-eqb _ _ e, content-is run t floats) (ap (λ (x : Loaded). x .run) l);
-    }
+unfolding storedIn written loaded judged
+stored-is-loaded held run out t floats e =
+    let a = written-is-read (c run t floats) (length-is run t floats) (is-small run t floats) in
+    rw (t, eq-eqb _ _ e, content-is run t floats, a .whole, a .same, stored-run run t floats) (ap takenUp (run-is run t floats))

@@ -1,4 +1,6 @@
 pub mod Small
+pub mod Parts
+pub mod Unused
 pub mod Known
 pub mod Again
 pub mod Opened

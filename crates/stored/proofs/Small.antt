@@ -2,25 +2,30 @@
 use mathlib.Core.Path.{_≡_}
 use Prim.Native.Nat.{ℕ, _≤_, _<_}
 use native.Mathlib.Omega.{arith}
-use mathlib.Core.Bool.{true}
+use borrow.Author.Tests.{leb-true}
+use mathlib.Core.Bool.{true, _&&_}
+use lib.Dec.{leb}
 use Rattle.run.specs.declared.Run.{Run}
+use Rattle.run.specs.declared.Settings.{Settings}
 use Rattle.run.specs.declared.Body.{Body}
 use Rattle.run.specs.declared.waiting.Waiting.{Waiting}
 use Rattle.run.specs.declared.waiting.Waiting.the-variants.{Epoch, Forward, Backward, Survey, Pass, Step, Tail, TailSample, Ended, Unknown}
-use Rattle.run.specs.Waiting.{waitingOf}
-use Rattle.run.specs.Counting.{soundOf, Small}
-use Rattle.run.proofs.Counts.{Counts, to-small, to-facts, evals-small}
+use Rattle.run.specs.Waiting.{waitsAt}
+use Rattle.run.specs.Sound.{isSound}
+use Rattle.run.specs.Limits.{maxPasses, maxSteps, maxFlag, areWithinLimits}
+use Rattle.run.specs.Ready.{Small}
+use Rattle.run.proofs.Counts.{both, Counts, to-small, to-facts, mostEvals, evals-few}
 
 -- every count is below this
 pub record Modest (run : Run) : Type 0 where
-  pub correctors : run .body .plan .settings .«max_corrector_iters» ≤ 100
-  pub startups : run .body .plan .settings .«max_startup_iters» ≤ 100
-  pub most : run .body .plan .settings .«max_steps» ≤ 1_000_000
-  pub passes : run .body .«startup_iters» ≤ 100
-  pub steps : run .body .track .steps ≤ 1_000_000
-  pub evals : run .mark .count .evals < 1_000_000_000
+  pub correctors : run .body .plan .settings .«max_corrector_iters» ≤ maxPasses
+  pub startups : run .body .plan .settings .«max_startup_iters» ≤ maxPasses
+  pub most : run .body .plan .settings .«max_steps» ≤ maxSteps
+  pub passes : run .body .«startup_iters» ≤ maxPasses
+  pub steps : run .body .track .steps ≤ maxSteps
+  pub evals : run .mark .count .evals ≤ mostEvals
 
-passes-few : (w : Waiting) (e : ℕ) (b : Body) → Small b → Counts w e b → (b .«startup_iters» ≤ 100) × (b .track .steps ≤ 1_000_000)
+passes-few : (w : Waiting) (e : ℕ) (b : Body) → Small (b .plan .settings) → Counts w e b → (b .«startup_iters» ≤ maxPasses) × (b .track .steps ≤ maxSteps)
 passes-few Epoch e b s c = (omega arith, omega arith)
 passes-few (Forward i t) e b s c = (omega arith, omega arith)
 passes-few (Backward i t) e b s c = (omega arith, omega arith)
@@ -32,9 +37,20 @@ passes-few TailSample e b s c = (omega (arith, s .startups, c .2 .started .most)
 passes-few Ended e b s c = absurd c
 passes-few Unknown e b s c = absurd c
 
-pub modest : (run : Run) → soundOf run ≡ true → Modest run
+pub modest : (run : Run) → isSound run ≡ true → Modest run
 modest run t =
     let f = to-facts run t in
-    let s = to-small (run .body) (f .limited) in
-    let p = passes-few (waitingOf (run .mark)) (run .mark .count .evals) (run .body) s (f .counted) in
-    record { correctors = s .passes; startups = s .startups; most = s .steps; passes = p .0; steps = p .1; evals = evals-small run t }
+    let s = to-small (run .body .plan .settings) (f .limited) in
+    let p = passes-few (waitsAt (run .mark)) (run .mark .count .evals) (run .body) s (f .counted) in
+    record { correctors = s .passes; startups = s .startups; most = s .steps; passes = p .0; steps = p .1; evals = evals-few run t }
+
+-- and so does the flag
+flag-within : (s : Settings) → areWithinLimits s ≡ true → s .samples ≤ maxFlag
+unfolding areWithinLimits
+flag-within s t =
+    let passes = leb (s .«max_startup_iters») maxPasses && leb (s .«max_corrector_iters») maxPasses in
+    let h = both (passes && leb (s .samples) maxFlag) (leb (s .«max_steps») maxSteps) t in
+    leb-true _ _ (both passes (leb (s .samples) maxFlag) (h .0) .1)
+
+pub flag-small : (run : Run) → isSound run ≡ true → run .body .plan .settings .samples ≤ maxFlag
+flag-small run t = flag-within (run .body .plan .settings) (to-facts run t .limited)

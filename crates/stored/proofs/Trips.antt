@@ -16,7 +16,7 @@ use Rattle.blocks.proofs.Trips.{read-is-written}
 use Rattle.stored.specs.Content.{contentOfRun}
 use Rattle.stored.specs.Taken.{runOf}
 use Rattle.stored.specs.Stored.{storing, storedIn, loaded}
-use Rattle.stored.specs.Trips.{StoredAgain, LoadedIsStored}
+use Rattle.stored.specs.Trips.{quieted, StoredAgain, LoadedIsStored}
 use Rattle.stored.proofs.Known.{known}
 use Rattle.stored.proofs.Again.{content-again}
 use Rattle.stored.proofs.Opened.{opened}
@@ -35,15 +35,18 @@ words-small bytes small i = go (ltb i 504) refl
         let h : 504 ≤ i = ltb-false _ _ e in
         rw (List·getD-eq-default (row (contentAt bytes) 504) 0 {n = i} (omega (arith, length-row (contentAt bytes) 504))) (omega arith)
 
+content-length : (bytes : List ℕ) → length (contentOf bytes) ≡ 504
+unfolding contentOf
+content-length bytes = length-row (contentAt bytes) 504
+
 pub loaded-is-stored : LoadedIsStored
 unfolding storing storedIn written
-loaded-is-stored bytes small t quiet =
-    let o = opened bytes t in
-    let again = content-again (contentOf bytes) (content-length bytes) (words-small bytes small) (known _ (o .known)) (o .zeros) quiet in
+loaded-is-stored held bytes q small t =
+    let o = opened held bytes q t in
+    let again = content-again (contentOf bytes) (content-length bytes) (words-small bytes small) (known _ (o .known)) (o .zeros) in
     record {
       accepted = λ (out : List ℕ) (e : length out ≡ 2048). rw (o .run, o .sound, eq-eqb _ _ e);
-      same = λ (out : List ℕ) (e : length out ≡ 2048). rw (o .run, o .sound, eq-eqb _ _ e, again) (read-is-written bytes small (o .whole));
+      quiet = λ (out : List ℕ) (e : length out ≡ 2048). rw (o .run, o .sound, eq-eqb _ _ e, again);
+      same = λ (out : List ℕ) (e : length out ≡ 2048) (z : quieted (contentOf bytes) ≡ contentOf bytes).
+          rw (o .run, o .sound, eq-eqb _ _ e, again) (ap form z ∙ read-is-written bytes small (o .whole));
     }
-  where
-    content-length : (bytes : List ℕ) → length (contentOf bytes) ≡ 504
-    content-length bytes = unfold contentOf in length-row (contentAt bytes) 504

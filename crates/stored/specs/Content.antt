@@ -11,7 +11,7 @@
 --     252 to 257 max_corrector_iters, max_startup_iters, max_steps, the startup passes, the steps, the accepted answers
 --     258 to 503 nothing
 use Prim.Native.Nat.{ℕ, _+_, _-_, _*_, _/_, _%_, _^_}
-use mathlib.Core.Bool.{Bool, cond}
+use mathlib.Core.Bool.{cond}
 use mathlib.Core.List.{List, [], _∷_}
 use lib.Dec.{eqb, ltb}
 use lib.ListN.{getD}
@@ -19,13 +19,13 @@ use lib.Ieee.{binary64, toBits}
 use Rattle.triple.specs.declared.Triple.{Triple}
 use Rattle.run.specs.declared.Mark.{Mark}
 use Rattle.run.specs.declared.Run.{Run}
-use Rattle.run.specs.Waiting.{waitingOf}
+use Rattle.run.specs.Waiting.{waitsAt}
 use Rattle.blocks.specs.Rows.{row}
 use Rattle.stored.specs.declared.layout.Uses.{Uses}
 use Rattle.stored.specs.Layout.{usesOf, used, triplesOf, floatNo}
 
-unfoldable pub headOf : Mark → Uses → Bool → List ℕ
-headOf m u samples = 1 ∷ m .at ∷ cond (u .index) (m .index) 0 ∷ cond (u .stage) (m .stage) 0 ∷ m .count .number ∷ cond samples 1 0 ∷ []
+unfoldable pub headOf : Mark → Uses → (samples : ℕ) → List ℕ
+headOf m u samples = 1 ∷ m .at ∷ cond (u .index) (m .index) 0 ∷ cond (u .stage) (m .stage) 0 ∷ m .count .number ∷ samples ∷ []
 
 unfoldable pub countsIn : Run → List ℕ
 countsIn run =
@@ -56,5 +56,5 @@ contentFrom head u ts counts = row (contentWord head u ts counts) 504
 
 unfoldable pub contentOfRun : Run → List ℕ
 contentOfRun run =
-    let u = usesOf (waitingOf (run .mark)) in
+    let u = usesOf (waitsAt (run .mark)) in
     contentFrom (headOf (run .mark) u (run .body .plan .settings .samples)) u (triplesOf (run .body)) (countsIn run)

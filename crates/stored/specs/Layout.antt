@@ -11,7 +11,7 @@ use Rattle.triple.specs.Nine.{at}
 use Rattle.run.specs.declared.Body.{Body}
 use Rattle.run.specs.declared.waiting.Waiting.{Waiting}
 use Rattle.run.specs.declared.waiting.Waiting.the-variants.{Epoch, Forward, Backward, Survey, Pass, Step, Tail, TailSample, Ended, Unknown}
-use Rattle.run.specs.Waiting.{stageNo}
+use Rattle.run.specs.Waiting.{stageNumber}
 use Rattle.stored.specs.declared.layout.Uses.{Uses}
 
 unfoldable pub line : Bool → Bool → ℕ → ℕ → ℕ → ℕ → Bool → ℕ → Bool → Bool → Bool → Bool → Bool → Bool → Uses
@@ -52,12 +52,12 @@ upToEpoch i = cond (ltb i 4) i 4
 unfoldable pub usesOf : Waiting → Uses
 --                         index stage from          last  since until epoch slopes  widest clock state sums trial fixed
 usesOf Epoch = line no no 4 4 0 0 no 0 no no no no no no
-usesOf (Forward i s) = line yes yes 4 i 0 0 yes (stageNo s) no no no no no no
-usesOf (Backward i s) = line yes yes i 8 0 0 yes (stageNo s) no no no no no no
+usesOf (Forward i s) = line yes yes 4 i 0 0 yes (stageNumber s) no no no no no no
+usesOf (Backward i s) = line yes yes i 8 0 0 yes (stageNumber s) no no no no no no
 usesOf (Survey i) = line yes no (upToEpoch i) 8 0 i yes 0 no no no no no no
 usesOf (Pass i) = line yes no (upToEpoch i) 8 0 9 yes 0 yes no no no no no
 usesOf (Step n) = line yes no 1 0 1 9 yes 0 no yes no yes yes yes
-usesOf (Tail s) = line no yes 1 0 0 0 no (stageNo s) no yes yes no no no
+usesOf (Tail s) = line no yes 1 0 0 0 no (stageNumber s) no yes yes no no no
 usesOf TailSample = line no no 1 0 0 0 no 0 no no no no yes no
 usesOf Ended = line no no 1 0 0 0 no 0 no no no no no no
 usesOf Unknown = line no no 1 0 0 0 no 0 no no no no no no

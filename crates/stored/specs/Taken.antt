@@ -1,21 +1,18 @@
--- W-201, loading: the run of a content, and which contents are one: "11 for another form number, an unknown waiting point, a flag above 1, unused
--- content that is not zero, or a run that 01's answer 7 calls made up". "Floats are taken as they come."
+-- W-201, loading: the run of a content, and which contents are one. "Floats are taken as they come."
 use Prim.Native.Nat.{ℕ, zero, suc, _+_, _-_, _*_, _/_, _^_}
-use mathlib.Core.Bool.{Bool, true, false, _&&_, cond}
+use mathlib.Core.Bool.{Bool, true, _&&_, _||_, cond}
 use mathlib.Core.List.{List, [], _∷_}
 use lib.Dec.{eqb, ltb, leb}
-use lib.ListN.{getD, replicate}
+use lib.ListN.{getD}
 use lib.Ieee.{Float, binary64, ofBits}
 use Rattle.triple.specs.declared.Triple.{Triple}
-use Rattle.triple.specs.Arithmetic.{zeros}
 use Rattle.triple.specs.Nine.{at}
 use Rattle.run.specs.declared.Body.{Body}
 use Rattle.run.specs.declared.Run.{Run}
-use Rattle.run.specs.Waiting.{waitingOf}
-use Rattle.run.specs.Counting.{soundOf}
+use Rattle.run.specs.Waiting.{waitsAt}
+use Rattle.run.specs.Sound.{isSound}
 use Rattle.blocks.specs.Rows.{row}
 use Rattle.stored.specs.declared.layout.Uses.{Uses}
-use Rattle.stored.specs.declared.judging.Taken.{Taken}
 use Rattle.stored.specs.Layout.{usesOf, used}
 
 -- ---- the run
@@ -32,7 +29,7 @@ unfoldable pub countsAt : List ℕ → List ℕ
 countsAt c = getD c 252 0 ∷ getD c 253 0 ∷ getD c 254 0 ∷ getD c 255 0 ∷ getD c 256 0 ∷ getD c 257 0 ∷ []
 
 -- as `triplesOf` has them, with the six counts
-unfoldable pub bodyFrom : List Triple → List ℕ → Bool → Body
+unfoldable pub bodyFrom : List Triple → List ℕ → (samples : ℕ) → Body
 bodyFrom f n samples =
     record {
       plan =
@@ -74,7 +71,7 @@ unfoldable pub runOf : List ℕ → Run
 runOf c =
     record {
       mark = record { at = getD c 1 0; index = getD c 2 0; stage = getD c 3 0; count = record { number = getD c 4 0; evals = getD c 257 0 } };
-      body = bodyFrom (triplesIn c) (countsAt c) (eqb (getD c 5 0) 1);
+      body = bodyFrom (triplesIn c) (countsAt c) (getD c 5 0);
     }
 
 -- ---- whether it is one
@@ -99,29 +96,13 @@ wordUsed u j =
     (ltb j 258))))
 
 unfoldable pub stillZero : Bool → Bool → ℕ → Bool
-stillZero so-far is-used word = cond so-far (cond is-used true (eqb word 0)) false
+stillZero so-far is-used word = so-far && (is-used || eqb word 0)
 
 -- of the first n words each that is not used is zero
 unfoldable pub unusedIsZero : List ℕ → Uses → ℕ → Bool
 unusedIsZero c u zero = true
 unusedIsZero c u (suc n) = stillZero (unusedIsZero c u n) (wordUsed u n) (getD c n 0)
 
--- an ended run: every number is zero
-unfoldable pub noRun : Run
-noRun =
-    record {
-      mark = record { at = 0; index = 0; stage = 0; count = record { number = 0; evals = 0 } };
-      body = bodyFrom (replicate 41 zeros) (replicate 6 0) false;
-    }
-
-unfoldable pub notTaken : Taken
-notTaken = record { taken = false; run = noRun }
-
-unfoldable pub judgedKnown : List ℕ → Taken
-judgedKnown c =
-    cond (unusedIsZero c (usesOf (waitingOf (runOf c .mark))) 504)
-    (cond (soundOf (runOf c)) (record { taken = true; run = runOf c }) notTaken)
-    notTaken
-
-unfoldable pub judged : List ℕ → Taken
-judged c = cond (isKnown c) (judgedKnown c) notTaken
+-- "11 for another form number, an unknown waiting point, a flag above 1, unused content that is not zero, or a run that 01's answer 7 calls made up"
+unfoldable pub isStoredRun : List ℕ → Bool
+isStoredRun c = isKnown c && unusedIsZero c (usesOf (waitsAt (runOf c .mark))) 504 && isSound (runOf c)

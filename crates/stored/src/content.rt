@@ -1,11 +1,13 @@
+// SPDX-License-Identifier: MIT OR Apache-2.0
 // A run as 504 words of content.
 ghost use mathlib.Core.Path.{_≡_};
 ghost use mathlib.Core.Bool.{true, cond};
-ghost use Prim.Native.Nat.{_<_};
-ghost use Rattle.blocks.specs.Rows.{row};
-ghost use Rattle.run.specs.Counting.{soundOf};
-ghost use Rattle.stored.specs.Layout.{component};
-ghost use Rattle.stored.specs.Content.{headOf, countsIn, floatWord, contentWord, contentFrom, contentOfRun};
+ghost use Rattle.run.specs.Sound.{isSound};
+ghost use Prim.Native.Nat.{ℕ, _-_};
+ghost use lib.ListN.{getD};
+ghost use lib.Ieee.{binary64, toBits};
+ghost use Rattle.blocks.specs.Rows.{filledFrom};
+ghost use Rattle.stored.specs.Content.{headOf, countsIn, half, floatWord, contentFrom, contentOfRun};
 use crate::layout;
 use crate::layout::Uses;
 use run::Mark;
@@ -20,25 +22,24 @@ fn kept(used: bool, n: u8) -> u32
 }
 
 // Form, waiting point, index, stage, question number, flag.
-fn head_of(mark: Mark, u: Uses, samples: bool) -> [u32; 6]
+fn head_of(mark: Mark, u: Uses, samples: u8) -> [u32; 6]
     ensures { λ l. ⌜ l ≡ headOf mark u samples ⌝ }
 {
     let index = kept(u.index, mark.index);
     let stage = kept(u.stage, mark.stage);
-    let flag = kept(samples, 1);
     [
         1,
         mark.at as u32,
         index,
         stage,
         mark.count.number as u32,
-        flag,
+        samples as u32,
     ]
 }
 
 // The counts, each in four bytes: a sound run has none that is larger.
 fn counts_in(run: Run) -> [u32; 6]
-    requires { ⌜ soundOf run ≡ true ⌝ }
+    requires { ⌜ isSound run ≡ true ⌝ }
     ensures { λ l. ⌜ l ≡ countsIn run ⌝ }
 {
     [
@@ -51,66 +52,78 @@ fn counts_in(run: Run) -> [u32; 6]
     ]
 }
 
-fn component_of(t: Triple, i: usize) -> f64
-    ensures { λ x. ⌜ x ≡ component t i ⌝ }
+// What is stored of a float: its bits, or nothing where it is not used.
+fn stored_bits(used: bool, x: f64) -> u64
+    ensures { λ n. ⌜ n ≡ cond used (toBits binary64 x) 0 ⌝ }
 {
-    if i == 0 {
-        return t.x;
-    }
-    if i == 1 {
-        return t.y;
-    }
-    t.z
+    if used { bits::bits_of(x) } else { 0 }
 }
 
-// Word j of the floats: each takes two, the lower first.
-fn float_word(u: Uses, floats: [Triple; 41], j: usize) -> u32
-    requires { ⌜ j < 246 ⌝ }
-    ensures { λ w. ⌜ w ≡ floatWord u floats j ⌝ }
+fn lower(bits: u64) -> u32
+    ensures { λ w. ⌜ w ≡ half bits 0 ⌝ }
 {
-    let k = j / 2;
-    if layout::is_used(u, k) {
-        let q = k / 3;
+    (bits % 0x1_0000_0000) as u32
+}
+
+fn upper(bits: u64) -> u32
+    ensures { λ w. ⌜ w ≡ half bits 1 ⌝ }
+{
+    (bits / 0x1_0000_0000) as u32
+}
+
+fn put_head(head: [u32; 6], content: &mut [u32; 504])
+    ensures { λ _. ⌜ now (content .exit) ≡ filledFrom (λ (j : ℕ). getD head j 0) 0 6 (now (content .entry)) ⌝ }
+{
+    let mut j = 0usize;
+    while j < 6 {
+        content[j] = head[j];
+        j += 1;
+    }
+}
+
+// Each float takes two words, the lower first.
+fn put_floats(u: Uses, floats: [Triple; 41], content: &mut [u32; 504])
+    ensures { λ _. ⌜ now (content .exit) ≡ filledFrom (λ (j : ℕ). floatWord u floats (j - 6)) 6 246 (now (content .entry)) ⌝ }
+{
+    let mut q = 0usize;
+    while q < 41 {
         let t = floats[q];
-        let bits = bits::bits_of(component_of(t, k % 3));
-        if j % 2 == 0 {
-            return (bits % 0x1_0000_0000) as u32;
-        }
-        return (bits / 0x1_0000_0000) as u32;
+        let x = stored_bits(layout::is_used(u, 3 * q), t.x);
+        let y = stored_bits(layout::is_used(u, 3 * q + 1), t.y);
+        let z = stored_bits(layout::is_used(u, 3 * q + 2), t.z);
+        content[6 * q + 6] = lower(x);
+        content[6 * q + 7] = upper(x);
+        content[6 * q + 8] = lower(y);
+        content[6 * q + 9] = upper(y);
+        content[6 * q + 10] = lower(z);
+        content[6 * q + 11] = upper(z);
+        q += 1;
     }
-    0
 }
 
-fn content_word(head: [u32; 6], u: Uses, floats: [Triple; 41], counts: [u32; 6], j: usize) -> u32
-    ensures { λ w. ⌜ w ≡ contentWord head u floats counts j ⌝ }
+fn put_counts(counts: [u32; 6], content: &mut [u32; 504])
+    ensures { λ _. ⌜ now (content .exit) ≡ filledFrom (λ (j : ℕ). getD counts (j - 252) 0) 252 6 (now (content .entry)) ⌝ }
 {
-    if j < 6 {
-        return head[j];
+    let mut i = 0usize;
+    while i < 6 {
+        content[252 + i] = counts[i];
+        i += 1;
     }
-    if j < 252 {
-        return float_word(u, floats, j - 6);
-    }
-    if j < 258 {
-        let k = j - 252;
-        return counts[k];
-    }
-    0
 }
 
+// The words by parts: the head, the floats and the counts. The rest stays zero.
 fn content_from(head: [u32; 6], u: Uses, floats: [Triple; 41], counts: [u32; 6]) -> [u32; 504]
     ensures { λ l. ⌜ l ≡ contentFrom head u floats counts ⌝ }
 {
     let mut content = [0u32; 504];
-    let mut j = 0usize;
-    while j < 504 {
-        content[j] = content_word(head, u, floats, counts, j);
-        j += 1;
-    }
+    put_head(head, &mut content);
+    put_floats(u, floats, &mut content);
+    put_counts(counts, &mut content);
     content
 }
 
 pub fn content_of_run(run: Run) -> [u32; 504]
-    requires { ⌜ soundOf run ≡ true ⌝ }
+    requires { ⌜ isSound run ≡ true ⌝ }
     ensures { λ l. ⌜ l ≡ contentOfRun run ⌝ }
 {
     let u = layout::uses_of(waiting::waits_at(run.mark));

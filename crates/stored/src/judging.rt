@@ -1,10 +1,11 @@
+// SPDX-License-Identifier: MIT OR Apache-2.0
 // A run from 504 words of content, and whether they are one.
 ghost use mathlib.Core.Path.{_≡_};
-ghost use mathlib.Core.Bool.{true, _&&_};
+ghost use mathlib.Core.Bool.{true};
 ghost use Prim.Native.Nat.{_<_};
-ghost use lib.Dec.{eqb};
-ghost use Rattle.blocks.specs.Rows.{row};
-ghost use Rattle.stored.specs.Taken.{floatAt, tripleAt, triplesIn, countsAt, bodyFrom, isKnown, runOf, wordUsed, stillZero, unusedIsZero, noRun, notTaken, judgedKnown, judged};
+ghost use Rattle.run.specs.Waiting.{waitsAt};
+ghost use Rattle.stored.specs.Layout.{usesOf};
+ghost use Rattle.stored.specs.Taken.{floatAt, tripleAt, triplesIn, countsAt, bodyFrom, isKnown, runOf, stillZero, unusedIsZero};
 use crate::layout;
 use crate::layout::Uses;
 use run::Body;
@@ -16,7 +17,6 @@ use run::Settings;
 use run::Slopes;
 use run::Track;
 use run::Trial;
-use run::sound;
 use run::waiting;
 use startup::Places;
 use startup::Widest;
@@ -24,11 +24,6 @@ use sums::Fixed;
 use sums::Sums;
 use triple::State;
 use triple::Triple;
-
-pub struct Taken {
-    pub taken: bool,
-    pub run: Run,
-}
 
 // Float k.
 fn float_at(content: &[u32; 504], k: usize) -> f64
@@ -82,7 +77,7 @@ fn counts_at(c: &[u32; 504]) -> [u64; 6]
 }
 
 // The mathematics of these floats and counts.
-fn body_from(f: [Triple; 41], n: [u64; 6], samples: bool) -> Body
+fn body_from(f: [Triple; 41], n: [u64; 6], samples: u8) -> Body
     ensures { λ b. ⌜ b ≡ bodyFrom f n samples ⌝ }
 {
     let settings = Settings {
@@ -154,7 +149,7 @@ fn body_from(f: [Triple; 41], n: [u64; 6], samples: bool) -> Body
 }
 
 // Form 1, a waiting point that there is, a flag of 0 or 1; and no number that its place in a run could not hold.
-fn is_known(c: &[u32; 504]) -> bool
+pub fn is_known(c: &[u32; 504]) -> bool
     ensures { λ b. ⌜ b ≡ isKnown (now (c .entry)) ⌝ }
 {
     if c[0] != 1 {
@@ -179,7 +174,7 @@ fn is_known(c: &[u32; 504]) -> bool
 }
 
 // The run of a content whose head is known.
-fn run_of(c: &[u32; 504]) -> Run
+pub fn run_of(c: &[u32; 504]) -> Run
     requires { ⌜ isKnown (now c) ≡ true ⌝ }
     ensures { λ run. ⌜ run ≡ runOf (now (c .entry)) ⌝ }
 {
@@ -193,100 +188,50 @@ fn run_of(c: &[u32; 504]) -> Run
             evals: counts[5],
         },
     };
-    let body = body_from(triples_in(c), counts, c[5] == 1);
+    let body = body_from(triples_in(c), counts, c[5] as u8);
     Run { mark, body }
 }
 
-// Whether word j is used.
-fn is_word_used(u: Uses, j: usize) -> bool
-    ensures { λ b. ⌜ b ≡ wordUsed u j ⌝ }
-{
-    if j == 2 {
-        return u.index;
-    }
-    if j == 3 {
-        return u.stage;
-    }
-    if j < 6 {
-        return true;
-    }
-    if j < 252 {
-        return layout::is_used(u, (j - 6) / 2);
-    }
-    j < 258
-}
-
+// Without a branch: a form has 504 words.
 fn still_zero(zero: bool, used: bool, word: u32) -> bool
     ensures { λ b. ⌜ b ≡ stillZero zero used word ⌝ }
 {
-    if zero {
-        if used {
-            return true;
-        }
-        return word == 0;
-    }
-    false
+    zero & (used | (word == 0))
 }
 
-fn is_unused_zero(c: &[u32; 504], u: Uses) -> bool
-    ensures { λ b. ⌜ b ≡ unusedIsZero (now (c .entry)) u 504 ⌝ }
+// Of the head, the index and the stage may be unused.
+fn is_head_zero(c: &[u32; 504], u: Uses) -> bool
+    ensures { λ b. ⌜ b ≡ unusedIsZero (now (c .entry)) u 6 ⌝ }
 {
-    let mut zero = true;
-    let mut j = 0usize;
-    while j < 504 {
-        zero = still_zero(zero, is_word_used(u, j), c[j]);
-        j += 1;
+    let index = still_zero(true, u.index, c[2]);
+    still_zero(index, u.stage, c[3])
+}
+
+// Both words of each float.
+fn are_floats_zero(c: &[u32; 504], u: Uses) -> bool
+    ensures { λ b. ⌜ b ≡ unusedIsZero (now (c .entry)) u 252 ⌝ }
+{
+    let mut zero = is_head_zero(c, u);
+    let mut k = 0usize;
+    while k < 123 {
+        let used = layout::is_used(u, k);
+        let lower = still_zero(zero, used, c[2 * k + 6]);
+        zero = still_zero(lower, used, c[2 * k + 7]);
+        k += 1;
     }
     zero
 }
 
-// What a content holds.
-pub fn judge(c: &[u32; 504]) -> Taken
-    ensures { λ t. ⌜ t ≡ judged (now (c .entry)) ⌝ }
+// What a waiting point does not use is zero. The counts are always used, and no word after them is.
+pub fn is_unused_zero(c: &[u32; 504], mark: Mark) -> bool
+    ensures { λ b. ⌜ b ≡ unusedIsZero (now (c .entry)) (usesOf (waitsAt mark)) 504 ⌝ }
 {
-    if is_known(c) {
-        return judge_known(c);
+    let u = layout::uses_of(waiting::waits_at(mark));
+    let mut zero = are_floats_zero(c, u);
+    let mut n = 0usize;
+    while n < 246 {
+        zero = still_zero(zero, false, c[n + 258]);
+        n += 1;
     }
-    refuse()
-}
-
-fn judge_known(c: &[u32; 504]) -> Taken
-    requires { ⌜ isKnown (now c) ≡ true ⌝ }
-    ensures { λ t. ⌜ t ≡ judgedKnown (now (c .entry)) ⌝ }
-{
-    let run = run_of(c);
-    let u = layout::uses_of(waiting::waits_at(run.mark));
-    if is_unused_zero(c, u) {
-        if sound::is_sound(run) {
-            return Taken { taken: true, run };
-        }
-        return refuse();
-    }
-    refuse()
-}
-
-// Where a content is refused, the run is one that has ended.
-pub fn refuse() -> Taken
-    ensures { λ t. ⌜ t ≡ notTaken ⌝ }
-{
-    let run = no_run();
-    Taken { taken: false, run }
-}
-
-// A run that has ended: every number is zero.
-fn no_run() -> Run
-    ensures { λ run. ⌜ run ≡ noRun ⌝ }
-{
-    let zero = Triple::zero();
-    let mark = Mark {
-        at: 0,
-        index: 0,
-        stage: 0,
-        count: Count {
-            number: 0,
-            evals: 0,
-        },
-    };
-    let body = body_from([zero; 41], [0; 6], false);
-    Run { mark, body }
+    zero
 }

@@ -1,3 +1,4 @@
+// SPDX-License-Identifier: MIT OR Apache-2.0
 // The layout: which floats of a run stand where, and which of them a waiting point uses.
 ghost use mathlib.Core.Path.{_≡_};
 ghost use Rattle.stored.specs.Layout.{nothingUsed, upToEpoch, usesOf, placeUsed, accelerationUsed, used, triplesOf};

@@ -1,6 +1,11 @@
+// SPDX-License-Identifier: MIT OR Apache-2.0
 // A run put away and taken up again (W-201): its content as words, and the two calls. The blocks are in `blocks`.
 ghost use mathlib.Core.Path.{_≡_};
-ghost use Rattle.stored.specs.Stored.{storing, storedIn, toldOf, loaded, numberTold};
+ghost use Rattle.stored.specs.Stored.{storing, storedIn, loaded};
+use gauss_jackson::Answered;
+use gauss_jackson::Outcome;
+use refusals::Refusal;
+use refusals::Told;
 use run::Run;
 use run::sound;
 
@@ -8,27 +13,7 @@ mod content;
 mod judging;
 mod layout;
 
-// 7, 10 and 11 by name.
-pub enum Told {
-    Done,
-    NoQuestion,
-    StoredShape,
-    StoredContent,
-}
-
-// The number in the table of refusals, and 0 where all was done.
-pub fn number_told(told: Told) -> u8
-    ensures { λ n. ⌜ n ≡ numberTold told ⌝ }
-{
-    match told {
-        Told::Done => 0,
-        Told::NoQuestion => 7,
-        Told::StoredShape => 10,
-        Told::StoredContent => 11,
-    }
-}
-
-// The run as a stored form in `out`.
+// The run as a stored form in `out`: 7, then 10, and then `out` is untouched.
 pub fn store(run: Run, out: &mut [u8]) -> Told
     ensures { λ t. ⌜ t ≡ storing run (now (out .entry)) ⌝ }
     ensures { λ _. ⌜ now (out .exit) ≡ storedIn run (now (out .entry)) ⌝ }
@@ -36,47 +21,31 @@ pub fn store(run: Run, out: &mut [u8]) -> Told
     if sound::is_sound(run) {
         let words = content::content_of_run(run);
         if blocks::write_to(&words, out) {
-            return Told::Done;
+            return Told::Written;
         }
-        return Told::StoredShape;
+        return Told::Refused(Refusal::StoredShape);
     }
-    Told::NoQuestion
+    Told::Refused(Refusal::NoQuestion)
 }
 
-// The run, or what it is refused with beside a run that has ended.
-pub struct Loaded {
-    pub told: Told,
-    pub run: Run,
-}
-
-fn told_of(taken: bool) -> Told
-    ensures { λ t. ⌜ t ≡ toldOf taken ⌝ }
+// The run of a stored form with its open question; or 10, then 11, and then `held`, the run that the caller has, comes back as it was.
+pub fn load(held: Run, bytes: &[u8]) -> Answered
+    ensures { λ x. ⌜ x ≡ loaded held (now (bytes .entry)) ⌝ }
 {
-    if taken {
-        Told::Done
-    } else {
-        Told::StoredContent
+    let mut words = [0u32; 504];
+    if blocks::read_into(bytes, &mut words) {
+        if judging::is_known(&words) {
+            let run = judging::run_of(&words);
+            if judging::is_unused_zero(&words, run.mark) {
+                if sound::is_sound(run) {
+                    let outcome = gauss_jackson::open_question(run);
+                    return Answered { run, outcome };
+                }
+            }
+        }
+        let outcome = Outcome::Refused(Refusal::StoredContent);
+        return Answered { run: held, outcome };
     }
-}
-
-// The run of a stored form.
-pub fn load(bytes: &[u8]) -> Loaded
-    ensures { λ l. ⌜ l ≡ loaded (now (bytes .entry)) ⌝ }
-{
-    let read = blocks::read_from(bytes);
-    if read.whole {
-        let words = read.content;
-        let judged = judging::judge(&words);
-        let run = judged.run;
-        return Loaded {
-            told: told_of(judged.taken),
-            run,
-        };
-    }
-    let refused = judging::refuse();
-    let run = refused.run;
-    Loaded {
-        told: Told::StoredShape,
-        run,
-    }
+    let outcome = Outcome::Refused(Refusal::StoredShape);
+    Answered { run: held, outcome }
 }

@@ -6,8 +6,7 @@ use Rattle.stored.proofs.content.head_of.Tie as tie
 
 returns : tie.Need-returns
 unfolding headOf
-returns c = simp (c .before .before .kept3 .ensures, c .before .before .before .kept2 .ensures, c .before .before .before .before .kept .ensures)
+returns c = cc
 
 pub head-of-spec : {M : Type 1} → statement M
-head-of-spec =
-    tie.close (tie.spec (λ c κs. search needs) (λ c κs. search needs) (λ c κs. search needs) (λ c. search needs) (λ c. search needs) returns)
+head-of-spec = tie.close (tie.spec (λ c κs. search needs) (λ c κs. search needs) (λ c. search needs) (λ c. search needs) returns)
