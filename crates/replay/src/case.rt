@@ -1,5 +1,6 @@
 // SPDX-License-Identifier: MIT OR Apache-2.0
 // A case: the words after `case`.
+use crate::away;
 use crate::force;
 use crate::force::Force;
 use crate::words;
@@ -15,6 +16,8 @@ pub struct Case {
     pub r0: Triple,
     pub v0: Triple,
     pub force: Force,
+    // Before every so many-th answer the run is put away and taken up; 0 is never.
+    pub away: u64,
 }
 
 // Where the reading stands, and whether every word so far had its shape.
@@ -30,6 +33,11 @@ pub struct GotNumber {
 
 pub struct GotTriple {
     pub value: Triple,
+    pub cursor: Cursor,
+}
+
+pub struct GotSettings {
+    pub value: Settings,
     pub cursor: Cursor,
 }
 
@@ -51,7 +59,7 @@ pub fn hex(line: &[u8], c: Cursor) -> GotNumber {
     after(words::hex_word(line, w), c, w.end)
 }
 
-fn count(line: &[u8], c: Cursor) -> GotNumber {
+pub fn count(line: &[u8], c: Cursor) -> GotNumber {
     let w = words::next_word(line, c.at);
     after(words::count_word(line, w), c, w.end)
 }
@@ -75,6 +83,28 @@ fn three(line: &[u8], c: Cursor) -> GotTriple {
     GotTriple { value, cursor }
 }
 
+// The step, the passes of corrector and startup, each with its tolerance, the most steps, and whether samples are wanted.
+fn settings(line: &[u8], c: Cursor) -> GotSettings {
+    let h = hex(line, c);
+    let max_corrector = count(line, h.cursor);
+    let corrector_tol = hex(line, max_corrector.cursor);
+    let max_startup = count(line, corrector_tol.cursor);
+    let startup_tol = hex(line, max_startup.cursor);
+    let max_steps = count(line, startup_tol.cursor);
+    let samples = flag(line, max_steps.cursor);
+    let value = Settings {
+        h: bits::float_of(h.value),
+        corrector_tol: bits::float_of(corrector_tol.value),
+        startup_tol: bits::float_of(startup_tol.value),
+        max_corrector_iters: max_corrector.value,
+        max_startup_iters: max_startup.value,
+        max_steps: max_steps.value,
+        samples: (samples.value % 2) as u8,
+    };
+    let cursor = samples.cursor;
+    GotSettings { value, cursor }
+}
+
 // The case behind the name; `ok` is false where a word is missing, left over or misshapen.
 pub fn read(line: &[u8], at: usize) -> Case {
     let name = words::next_word(line, at);
@@ -84,35 +114,23 @@ pub fn read(line: &[u8], at: usize) -> Case {
     };
     let t0 = hex(line, start);
     let tf = hex(line, t0.cursor);
-    let h = hex(line, tf.cursor);
-    let max_corrector = count(line, h.cursor);
-    let corrector_tol = hex(line, max_corrector.cursor);
-    let max_startup = count(line, corrector_tol.cursor);
-    let startup_tol = hex(line, max_startup.cursor);
-    let max_steps = count(line, startup_tol.cursor);
-    let samples = flag(line, max_steps.cursor);
-    let r0 = three(line, samples.cursor);
+    let chosen = settings(line, tf.cursor);
+    let r0 = three(line, chosen.cursor);
     let v0 = three(line, r0.cursor);
-    let read = force::read(line, v0.cursor);
-    let settings = Settings {
-        h: bits::float_of(h.value),
-        corrector_tol: bits::float_of(corrector_tol.value),
-        startup_tol: bits::float_of(startup_tol.value),
-        max_corrector_iters: max_corrector.value,
-        max_startup_iters: max_startup.value,
-        max_steps: max_steps.value,
-        samples: (samples.value % 2) as u8,
-    };
+    let named = force::read(line, v0.cursor);
+    let last = away::read(line, named.cursor);
+    let settings = chosen.value;
     let position = r0.value;
     let velocity = v0.value;
-    let force = read.force;
+    let force = named.value;
     Case {
-        ok: read.ok,
+        ok: last.ok,
         settings,
         t0: bits::float_of(t0.value),
         tf: bits::float_of(tf.value),
         r0: position,
         v0: velocity,
         force,
+        away: last.every,
     }
 }

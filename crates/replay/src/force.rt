@@ -31,9 +31,9 @@ pub struct Told {
     pub force: Force,
 }
 
-pub struct ReadForce {
-    pub ok: bool,
-    pub force: Force,
+pub struct GotForce {
+    pub value: Force,
+    pub cursor: Cursor,
 }
 
 fn kind_of(line: &[u8], w: Word) -> u8 {
@@ -52,20 +52,19 @@ fn kind_of(line: &[u8], w: Word) -> u8 {
     NONE
 }
 
-// The force's name and its four parameters, with nothing after them.
-pub fn read(line: &[u8], c: Cursor) -> ReadForce {
+// The force's name and its four parameters.
+pub fn read(line: &[u8], c: Cursor) -> GotForce {
     let w = words::next_word(line, c.at);
     let kind = kind_of(line, w);
     let start = Cursor {
         at: w.end,
-        ok: c.ok,
+        ok: c.ok && kind != NONE,
     };
     let p0 = case::hex(line, start);
     let p1 = case::hex(line, p0.cursor);
     let p2 = case::hex(line, p1.cursor);
     let p3 = case::hex(line, p2.cursor);
-    let rest = words::next_word(line, p3.cursor.at);
-    let force = Force {
+    let value = Force {
         kind,
         p0: bits::float_of(p0.value),
         p1: bits::float_of(p1.value),
@@ -73,8 +72,8 @@ pub fn read(line: &[u8], c: Cursor) -> ReadForce {
         state: p0.value,
         next: 0,
     };
-    let ok = p3.cursor.ok && kind != NONE && rest.start == rest.end;
-    ReadForce { ok, force }
+    let cursor = p3.cursor;
+    GotForce { value, cursor }
 }
 
 fn linear(f: Force, t: f64, r: f64, v: f64) -> f64 {

@@ -6,6 +6,7 @@ use crate::case;
 use crate::play;
 use crate::text;
 use crate::words;
+use crate::words::Word;
 
 // A piece of the input: each line that ends in it is dealt with.
 pub fn take(piece: &[u8], place: Place, line: &mut [u8], samples: &mut [f64]) -> Place {
@@ -74,6 +75,11 @@ fn deal_with(place: Place, line: &[u8], samples: &mut [f64]) -> usize {
     if first.start == first.end {
         return place.held;
     }
+    deal_by_word(place, line, first, samples)
+}
+
+// What the first word asks for.
+fn deal_by_word(place: Place, line: &[u8], first: Word, samples: &mut [f64]) -> usize {
     if words::is_text(line, first, b"case") {
         return deal_with_case(place, line, first.end, true, samples);
     }
@@ -85,14 +91,13 @@ fn deal_with(place: Place, line: &[u8], samples: &mut [f64]) -> usize {
     }
     let held = place.held;
     if held <= samples.len() {
-        deal_with_times(place, line, &samples[..held]);
+        deal_with_times(place, line, first, &samples[..held]);
     }
     held
 }
 
 // A line that asks between the samples held.
-fn deal_with_times(place: Place, line: &[u8], samples: &[f64]) {
-    let first = words::next_word(line, 0);
+fn deal_with_times(place: Place, line: &[u8], first: Word, samples: &[f64]) {
     if words::is_text(line, first, b"at") {
         return between::tell_at(place, line, first.end, samples);
     }

@@ -1,6 +1,8 @@
 // SPDX-License-Identifier: MIT OR Apache-2.0
 // Cases, tables and times on standard input, transcripts on standard output, in the oracle's format: every question, sample, state,
-// count and refusal of the proved library, and what it tells between samples. Reads and writes in pieces; a misshapen line is answered `bad line N`, and the reading goes on.
+// count and refusal of the proved library, and what it tells between samples. A case may ask for its run to be put away and taken up on
+// its way, which may change nothing. Reads and writes in pieces; a misshapen line is answered `bad line N`, and the reading goes on.
+mod away;
 mod between;
 mod case;
 mod force;
