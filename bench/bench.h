@@ -4,7 +4,6 @@
 #define BENCH_H
 
 #include "gauss_jackson.h"
-#include "stored_names.h"
 
 #include <stdbool.h>
 

@@ -11,6 +11,8 @@
  *     if (reply.kind == GJ_DONE) ... reply.t, reply.r, reply.v; reply.steps + 1 samples stand ...
  *     else ... reply.refusal, in words gj_refusal_text(reply.refusal) ...
  *
+ * Between any two questions a run can be put away in 2,048 bytes and taken up later, on another tablet too: gj_store, gj_load.
+ *
  * Names: the project is Idfulzekt, what it offers is called gauss_jackson (this header, libgauss_jackson.a, the Rust crate), gj_ stands
  * before each of its names in C, and `app` is only the crate of the source that exports them.
  *
@@ -19,16 +21,18 @@
  * The library, measured by tests/symbols/run and tests/stack/run: x86-64 Linux, System V calls, position-independent; needs memcpy and
  * memset and nothing else; has no data of its own, so threads may call it at the same time on runs of their own; exports gj_* alone.
  * Nothing is allocated. A call takes at most 32 KiB of stack: at last count an answer 24,712 bytes in the startup and 18,008 afterwards, a
- * start 5,432, an open question 3,864, an interpolation under 400.
+ * start 5,432, an open question 3,864, a storing 5,272, a loading 10,280, an interpolation under 400.
  *
  * What the caller owes, since no proof reaches it:
- *   - every pointer points to memory of the size said here, aligned to 8 bytes, which nobody else uses during the call;
- *   - a count is the true count of numbers behind its pointer; where it is 0 the pointer is not looked at, and may be null;
+ *   - every pointer points to memory of the size said here, aligned to 8 bytes (bytes of a stored form may stand anywhere), which nobody
+ *     else uses during the call;
+ *   - a count is the true count of numbers, or bytes, behind its pointer; where it is 0 the pointer is not looked at, and may be null;
  *   - two arguments of one call never overlap, save where both are only read;
  *   - the floating-point environment that a C program starts with: round to nearest, subnormals on, exceptions masked. (A program that is
  *     linked with -ffast-math may start with subnormals off.)
  * Beyond valid pointers and counts, and that environment, every value is allowed: NaN, infinities, ended and made-up runs, any byte in
- * the settings. Each has its answer. No machine checks this file against the library's source; tests/abi/run compares the two.
+ * the settings, any bytes as a stored form. Each has its answer. No machine checks this file against the library's source; tests/abi/run
+ * compares the two.
  *
  * What surprises:
  *   - The force is asked at times outside the span, and not in order: the startup asks from t0-4h to t0+4h (backward too: up to t0+4h, h
@@ -48,8 +52,9 @@
 #include <stdint.h>
 
 /* The version, and the number of what is laid down between header and library: it goes up when a size, a place or a call changes. Each is
- * set here alone. */
-#define GJ_VERSION "0.2.0"
+ * set here alone. Calls that are added change nothing for programs built before, so the number stays; a program that uses one does not
+ * link with an older library: "undefined reference to gj_store". */
+#define GJ_VERSION "0.3.0"
 #define GJ_ABI 1
 
 #ifdef __cplusplus
@@ -77,9 +82,12 @@ enum {
     GJ_SETTING = 5,               /* start: a setting over its limit; no run, no sample */
     GJ_SAMPLE_ROOM = 6,           /* answer: the samples due now do not all fit; ended. This call writes none, earlier ones stand: with
                                      room for n samples at every call n of them, none if n is below 5 */
-    GJ_NO_QUESTION = 7,           /* answer, open question: the run has ended, or is made up; run and samples unchanged */
+    GJ_NO_QUESTION = 7,           /* answer, open question, storing: the run has ended, or is made up; run, samples, bytes unchanged */
     GJ_NOT_THAT_QUESTION = 8,     /* answer: the number is not the open question's; run and samples unchanged, answer again */
-    GJ_SHAPE = 9                  /* interpolation: samples not in tens, or output below 6 numbers a time; untouched */
+    GJ_SHAPE = 9,                 /* interpolation: samples not in tens, or output below 6 numbers a time; untouched */
+    GJ_STORED_SHAPE = 10,         /* storing: the buffer has not GJ_STORED_SIZE bytes; untouched. Loading: not GJ_STORED_SIZE bytes, or a
+                                     block's number or check is wrong: cut short, damaged, another file; the run is as it was */
+    GJ_STORED_CONTENT = 11        /* loading: whole blocks, but another form number, or what no run is; the run is as it was */
 };
 
 /* Limits of the settings. */
@@ -90,7 +98,8 @@ enum {
 
 enum {
     GJ_SAMPLE_NUMBERS = 10,   /* t, r.x r.y r.z, v.x v.y v.z, a.x a.y a.z */
-    GJ_BETWEEN_NUMBERS = 6    /* what an interpolation writes a time: r.x r.y r.z, v.x v.y v.z */
+    GJ_BETWEEN_NUMBERS = 6,   /* what an interpolation writes a time: r.x r.y r.z, v.x v.y v.z */
+    GJ_STORED_SIZE = 2048     /* bytes of a run that is put away */
 };
 
 /* A position, a velocity or an acceleration. */
@@ -129,7 +138,7 @@ typedef struct gj_reply {
     uint64_t steps;          /* steps made */
     uint64_t startup_iters;  /* startup passes made */
     uint32_t kind;           /* GJ_ASK, GJ_DONE or GJ_REFUSED */
-    uint16_t refusal;        /* 1 to 9, by the names above */
+    uint16_t refusal;        /* 1 to 11, by the names above */
     uint16_t number;         /* the question's number: answer under it; after 65,535 comes 0 */
 } gj_reply;
 GJ_SIZE(gj_reply, 88);
@@ -163,6 +172,34 @@ gj_reply gj_answer(gj_run *run, uint16_t number, gj_triple a, double *out, size_
 
 /* The question that the run waits for, once more, or refusal 7. The run is only read. */
 gj_reply gj_open_question(const gj_run *run);
+
+/* The run, put away: GJ_STORED_SIZE bytes to `out`, for a file. Gives 0; or refusal 7, then 10, and `out` is untouched. The run is only
+ * read, and may go on.
+ *
+ *     uint8_t form[GJ_STORED_SIZE];
+ *     if (gj_store(&run, form, sizeof form) == 0) ... write the form to a file ...
+ *     ...
+ *     gj_run run = {0};                                      -- an ended run, where the app holds none yet
+ *     gj_reply reply = gj_load(&run, form, bytes_read);      -- GJ_ASK: the open question; go on as after a start
+ *
+ * Samples are not in the form: the app keeps its sample buffer itself and lends it again, or another one of the same room. The bytes are
+ * little-endian and the same on every tablet; docs/STORED.md has each of them, and later versions take them too. Every NaN is stored as
+ * 0x7ff8000000000000, whatever its bits were; all other floats by their bits.
+ *
+ * A crash while the file is written is the app's affair. Written safely, the old form or the new one stands, whole: write to a new file
+ * beside the old one, flush it to the disk (fsync), then rename it over the old one. examples/c/away.c does so. A power cut right after
+ * may bring the old one back, unless the folder is flushed too. */
+uint32_t gj_store(const gj_run *run, uint8_t *out, size_t out_bytes);
+
+/* The run that was put away, taken up: GJ_ASK with its open question, and *run is that run. The same questions follow as if it had never
+ * been put away, and the same bits. Or refusal 10, then 11: *run is then as it was, so that a damaged file costs no run that the app
+ * holds; where it holds none, begin with an ended one, gj_run run = {0}. `bytes` are only read.
+ *   - An older form drops the answers accepted since: they no longer count, and are asked again.
+ *   - A block's check is a sum, no signature: it finds accidents, not forgers. Any one changed word is found, two that changed places not.
+ *   - Blocks mixed from several storings may load unnoticed. They are then a run of their own, of which nothing is promised but the rules of
+ *     each single answer.
+ *   - Stored again at once, a loaded form gives the same bytes, NaN aside: other patterns of NaN than the one above come back as that. */
+gj_reply gj_load(gj_run *run, const uint8_t *bytes, size_t bytes_count);
 
 /* Position and velocity at time t between the samples: 6 numbers to `out`. `samples` has `n` numbers, ten a sample, as gj_answer
  * wrote them; `out` has room for `m`. Gives 0, or refusal 9, 3 or 4, and then nothing is written. A NaN time gives six NaN.

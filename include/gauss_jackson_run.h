@@ -1,7 +1,8 @@
 /* SPDX-License-Identifier: MIT OR Apache-2.0 */
 /* The run, as it lies in memory. Part of gauss_jackson.h; an app has no need to look inside.
  *
- * It is plain data, without pointers: it may be copied, kept and answered again. A copy is a line of answers of its own.
+ * It is plain data, without pointers: it may be copied, kept and answered again. A copy is a line of answers of its own. For a file take
+ * gj_store: these bytes are of one GJ_ABI, and damage in them might go unnoticed.
  * It may not be changed by hand: what does not follow the counting is refused as made up (7), the rest is taken as it is.
  */
 #ifndef GAUSS_JACKSON_RUN_H

@@ -32,6 +32,9 @@ prove_library() {
     library_stamp >$stamp
 }
 
+# The calls that the header declares, a line each.
+declared_calls() { sed -n 's/^[a-z].* \**\(gj_[a-z_]*\)(.*/\1/p' include/gauss_jackson.h; }
+
 need_library() {
     if [ -n "${GJ_LIBRARY:-}" ]; then
         [ -f "$GJ_LIBRARY" ] || lacks "GJ_LIBRARY=\"$GJ_LIBRARY\" names no file"

@@ -1,5 +1,5 @@
 /* SPDX-License-Identifier: MIT OR Apache-2.0 */
-/* What both examples share: the Earth, the words of the command line, rows for other programs. Units are km and seconds. */
+/* What the examples share: the Earth, the words of the command line, rows for other programs. Units are km and seconds. */
 #ifndef FLIGHT_H
 #define FLIGHT_H
 

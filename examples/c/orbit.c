@@ -7,7 +7,7 @@
  *
  * GJ_DENSE 0 builds it for a library without interpolation: the table then stands at samples.
  */
-#include "flight.h"
+#include "orbit.h"
 
 #ifndef GJ_DENSE
 #define GJ_DENSE 1
@@ -15,22 +15,9 @@
 
 enum { STEPS = 1440, ROWS = 24, NUMBERS = GJ_SAMPLE_NUMBERS * (STEPS + 1) };
 
-static const double DAY = 86400.0, RADIUS = 6778.137;
-
-/* The Earth as a point: each operation rounded once, in this order, so that another program can give the same bits. */
-static gj_triple force(gj_triple r) {
-    double d = distance(r), cube = (d * d) * d;
-    gj_triple a = {(-MU * r.x) / cube, (-MU * r.y) / cube, (-MU * r.z) / cube};
-    return a;
-}
-
 static gj_reply carry_forward(double *samples) {
-    double speed = sqrt(MU / RADIUS);
-    gj_triple r0 = {RADIUS, 0.0, 0.0}, v0 = {0.0, speed * COS_INCLINATION, speed * SIN_INCLINATION};
-    gj_settings settings = gj_default_settings();
-    settings.samples = 1;
     gj_run run;
-    gj_reply reply = gj_start(&run, settings, 0.0, DAY, r0, v0);
+    gj_reply reply = start_day(&run, 1);
     while (reply.kind == GJ_ASK)
         reply = gj_answer(&run, reply.number, force(reply.r), samples, NUMBERS);
     return reply;

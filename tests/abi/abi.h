@@ -38,6 +38,8 @@ void layout_of_replies(void);
 void layout_of_runs(void);
 void results(void);
 void promises(void);
+void stored_refusals(void);
+void stored_runs(void);
 int wrapper_failures(void);
 
 #endif

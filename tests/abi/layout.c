@@ -32,6 +32,7 @@ static size_t extent(const unsigned char *memory, size_t size) {
 void *seen_default_settings(void *) __asm__("gj_default_settings");
 void *seen_start(void *, gj_run *, gj_settings, double, double, gj_triple, gj_triple) __asm__("gj_start");
 void *seen_answer(void *, gj_run *, uint16_t, gj_triple, double *, size_t) __asm__("gj_answer");
+void *seen_load(void *, gj_run *, const uint8_t *, size_t) __asm__("gj_load");
 
 static const gj_settings ODD = {61.25, 0x1p-40, 0x1p-41, 3, 11, 777777, 1};
 
@@ -107,9 +108,22 @@ static void state_layout(gj_run *run) {
     check(place_of(&end, 88, &kind, 4) == offsetof(gj_reply, kind), "the finished state's kind");
 }
 
+/* A loading tells its question as a start does, in the same place. */
+static void loaded_layout(gj_run *run) {
+    unsigned char told[WIDE];
+    uint8_t form[GJ_STORED_SIZE];
+    gj_triple r0 = {1.5, 2.5, 3.5}, v0 = {4.5, 5.5, 6.5};
+    gj_reply asked = gj_start(run, plain(), 7.5, 16.5, r0, v0);
+    check(gj_store(run, form, sizeof form) == 0, "a storing");
+    memset(told, PATTERN, sizeof told);
+    check(seen_load(told, run, form, sizeof form) == (void *)told, "a loading's hidden pointer comes back");
+    check(extent(told, WIDE) == sizeof asked && memcmp(told, &asked, sizeof asked) == 0, "a loading's reply is that of the start");
+}
+
 void layout_of_replies(void) {
     gj_run run;
     question_layout(&run);
+    loaded_layout(&run);
     number_layout(&run);
     state_layout(&run);
 }

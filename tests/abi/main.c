@@ -10,6 +10,8 @@ int main(void) {
     layout_of_runs();
     results();
     promises();
+    stored_refusals();
+    stored_runs();
 #if GJ_RUST
     failures += wrapper_failures();
 #endif

@@ -1,6 +1,6 @@
 // SPDX-License-Identifier: MIT OR Apache-2.0
 //! The safe crate over the real library: counts, states and every refusal that it can meet there.
-use gauss_jackson::{numbers_for, Refusal, Reply, Run, Settings, Triple};
+use gauss_jackson::{numbers_for, Refusal, Reply, Run, Settings, Triple, STORED_SIZE};
 
 const PLAIN: Settings =
     Settings { h: 1.0, corrector_tol: 0.0, startup_tol: 0.0, max_corrector_iters: 1, max_startup_iters: 1, max_steps: 1_000_000, samples: false };
@@ -48,6 +48,18 @@ fn refusals() {
     assert_eq!(run.open_question(), Ok(reply));
 }
 
+fn stored() {
+    let (mut run, reply) = start(PLAIN).unwrap();
+    let form = run.store().unwrap();
+    let (mut loaded, question) = Run::load(&form).unwrap();
+    assert_eq!((question, loaded.store()), (reply, Ok(form)));
+    let force = |_, r: Triple, _| Triple { x: -r.x, y: -r.y, z: -r.z };
+    assert_eq!(loaded.drive(force, &mut []), run.drive(force, &mut []));
+    assert_eq!(loaded.store(), Err(Refusal::NoQuestion));
+    assert_eq!(Run::load(&form[1..]).unwrap_err(), Refusal::StoredShape);
+    assert_eq!(Run::load(&[0; STORED_SIZE]).unwrap_err(), Refusal::StoredShape);
+}
+
 #[cfg(feature = "dense")]
 fn between() {
     use gauss_jackson::{interpolate, interpolate_batch};
@@ -69,6 +81,6 @@ fn between() {}
 /// How many of the parts failed; each says on standard error what it found.
 #[no_mangle]
 pub extern "C" fn wrapper_failures() -> i32 {
-    let parts: [fn(); 3] = [runs, refusals, between];
+    let parts: [fn(); 4] = [runs, refusals, stored, between];
     parts.iter().filter(|part| std::panic::catch_unwind(**part).is_err()).count() as i32
 }

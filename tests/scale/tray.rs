@@ -2,12 +2,7 @@
 //! Lent bytes at any alignment between two guard zones, and the library's two calls on them.
 use crate::check::{holds, Verdict};
 use crate::random::Random;
-use crate::raw::{Reply, Run};
-
-extern "C" {
-    fn gj_store(run: *const Run, out: *mut u8, out_bytes: usize) -> u32;
-    fn gj_load(run: *mut Run, bytes: *const u8, bytes_count: usize) -> Reply;
-}
+use crate::raw::{gj_load, gj_store, Reply, Run};
 
 const GUARD: usize = 64;
 

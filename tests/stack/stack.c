@@ -12,6 +12,7 @@ static gj_reply reply;
 static gj_settings settings;
 static double samples[110], six[12], times[2];
 static uint32_t told;
+static uint8_t form[GJ_STORED_SIZE];
 
 static void nothing(void) {}
 static void call_default_settings(void) { settings = gj_default_settings(); }
@@ -27,6 +28,8 @@ static void call_answer(void) {
 }
 
 static void call_open_question(void) { reply = gj_open_question(&run); }
+static void call_store(void) { told = gj_store(&run, form, sizeof form); }
+static void call_load(void) { reply = gj_load(&run, form, sizeof form); }
 static void call_interpolate(void) { told = gj_interpolate(times[0], samples, 100, six, 12); }
 static void call_interpolate_batch(void) { told = gj_interpolate_batch(times, 2, samples, 100, six, 12); }
 
@@ -55,16 +58,33 @@ static void keep(long *most, long bytes) {
     if (bytes > *most) *most = bytes;
 }
 
-/* A run to its end, with samples or without, and one call more: the most that calls took. */
-static void follow(long *startup, long *step, long *open) {
+/* The most that the calls took. */
+typedef struct most {
+    long startup, step, open, store, load;
+} most;
+
+/* The run goes through the stored form: what comes out of it is answered next. */
+static void put_away(most *m) {
+    keep(&m->store, taken(call_store));
+    failures += told != 0;
+    keep(&m->load, taken(call_load));
+    failures += reply.kind != GJ_ASK;
+}
+
+/* A run to its end, with samples or without, and one call more of each, by what is ended and what is no form. */
+static void follow(most *m) {
     call_start();
     while (reply.kind == GJ_ASK) {
-        keep(open, taken(call_open_question));
-        long *answer = run.mark.at < 6 ? startup : step;
+        keep(&m->open, taken(call_open_question));
+        put_away(m);
+        long *answer = run.mark.at < 6 ? &m->startup : &m->step;
         keep(answer, taken(call_answer));
     }
-    keep(step, taken(call_answer));
-    keep(open, taken(call_open_question));
+    keep(&m->step, taken(call_answer));
+    keep(&m->open, taken(call_open_question));
+    keep(&m->store, taken(call_store));
+    form[0] ^= 1;
+    keep(&m->load, taken(call_load));
 }
 
 int main(void) {
@@ -72,11 +92,13 @@ int main(void) {
     print("gj_default_settings", taken(call_default_settings));
     settings.h = 2.0;
     print("gj_start", taken(call_start));
-    long startup = 0, step = 0, open = 0;
-    for (settings.samples = 0; settings.samples <= 1; settings.samples++) follow(&startup, &step, &open);
-    print("gj_answer, startup", startup);
-    print("gj_answer, later", step);
-    print("gj_open_question", open);
+    most m = {0, 0, 0, 0, 0};
+    for (settings.samples = 0; settings.samples <= 1; settings.samples++) follow(&m);
+    print("gj_answer, startup", m.startup);
+    print("gj_answer, later", m.step);
+    print("gj_open_question", m.open);
+    print("gj_store", m.store);
+    print("gj_load", m.load);
     times[0] = 3.5, times[1] = 16.5;
     print("gj_interpolate", taken(call_interpolate));
     failures += told != 0;

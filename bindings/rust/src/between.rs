@@ -18,13 +18,6 @@ mod calls {
     /// How many numbers the library writes a time.
     const NUMBERS: usize = 6;
 
-    fn read(refusal: u32) -> Result<(), Refusal> {
-        match refusal {
-            0 => Ok(()),
-            number => Err(Refusal::of(number as u16)),
-        }
-    }
-
     /// At time t, from samples as a run stored them: ten numbers each, and no others in the slice.
     ///
     /// Room that the run did not fill is no sample: cut it off by [`numbers_for`](crate::numbers_for) the steps made. A time of NaN is not
@@ -48,7 +41,7 @@ mod calls {
         let mut at = State::default();
         let out = std::ptr::addr_of_mut!(at).cast();
         // A State is six numbers in the order in which the library writes them.
-        read(unsafe { raw::gj_interpolate(t, samples.as_ptr(), samples.len(), out, NUMBERS) })?;
+        Refusal::told(unsafe { raw::gj_interpolate(t, samples.as_ptr(), samples.len(), out, NUMBERS) })?;
         Ok(at)
     }
 
@@ -76,7 +69,7 @@ mod calls {
         let mut all = vec![State::default(); times.len()];
         let out = all.as_mut_ptr().cast();
         let (k, n, m) = (times.len(), samples.len(), NUMBERS * times.len());
-        read(unsafe { raw::gj_interpolate_batch(times.as_ptr(), k, samples.as_ptr(), n, out, m) })?;
+        Refusal::told(unsafe { raw::gj_interpolate_batch(times.as_ptr(), k, samples.as_ptr(), n, out, m) })?;
         Ok(all)
     }
 }

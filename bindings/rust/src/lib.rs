@@ -39,6 +39,11 @@
 //! begin at t0 do not reach. After the startup the times go on step by step, each asked once or more; where they are not whole numbers,
 //! the last may pass tf by rounding.
 //!
+//! # Putting a run away
+//!
+//! Between any two questions [`Run::store`] puts a run into [`STORED_SIZE`] bytes, for a file. [`Run::load`] takes it up after a restart, or
+//! on another tablet, and goes on as if nothing had been, to the same bits.
+//!
 //! # What the caller owes
 //!
 //! Buffers are slices, so no pointer is null and no count is wrong; every value is taken, and what the library cannot use it refuses by a
@@ -69,6 +74,7 @@ mod refusal;
 mod run;
 mod sample;
 mod settings;
+mod stored;
 
 pub use between::State;
 #[cfg(feature = "dense")]
@@ -81,3 +87,4 @@ pub use refusal::Refusal;
 pub use run::{Reply, Run};
 pub use sample::{numbers_for, Sample, SAMPLE_NUMBERS};
 pub use settings::Settings;
+pub use stored::STORED_SIZE;

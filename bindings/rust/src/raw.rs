@@ -60,6 +60,8 @@ extern "C" {
     pub fn gj_start(run: *mut Run, settings: Settings, t0: f64, tf: f64, r0: Triple, v0: Triple) -> Reply;
     pub fn gj_answer(run: *mut Run, number: u16, a: Triple, out: *mut f64, count: usize) -> Reply;
     pub fn gj_open_question(run: *const Run) -> Reply;
+    pub fn gj_store(run: *const Run, out: *mut u8, out_bytes: usize) -> u32;
+    pub fn gj_load(run: *mut Run, bytes: *const u8, bytes_count: usize) -> Reply;
 }
 
 #[cfg(feature = "dense")]

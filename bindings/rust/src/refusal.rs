@@ -23,17 +23,21 @@ pub enum Refusal {
     Setting,
     /// At an answer: the samples due now do not all fit. The run has ended; this call wrote none.
     SampleRoom,
-    /// At an answer or for the open question: the run has ended.
+    /// At an answer, for the open question or at a storing: the run has ended.
     NoQuestion,
     /// At an answer: the number is not the open question's. The run waits as before.
     NotThatQuestion,
     /// At an interpolation: the numbers of the samples are not in tens.
     Shape,
+    /// At a loading: not 2,048 bytes, or a block's number or check is wrong.
+    StoredShape,
+    /// At a loading: the blocks are whole, but hold no run.
+    StoredContent,
     /// A number that this crate has no name for: the library is newer than the crate.
     Other(u16),
 }
 
-const NAMED: [Refusal; 9] = [
+const NAMED: [Refusal; 11] = [
     Refusal::StepNotFinite,
     Refusal::MaxStepsExceeded,
     Refusal::NoDenseOutput,
@@ -43,12 +47,22 @@ const NAMED: [Refusal; 9] = [
     Refusal::NoQuestion,
     Refusal::NotThatQuestion,
     Refusal::Shape,
+    Refusal::StoredShape,
+    Refusal::StoredContent,
 ];
 
 impl Refusal {
     pub(crate) fn of(number: u16) -> Refusal {
         let place = usize::from(number).wrapping_sub(1);
         NAMED.get(place).copied().unwrap_or(Refusal::Other(number))
+    }
+
+    /// What a call tells that writes or refuses: 0, or a refusal's number.
+    pub(crate) fn told(number: u32) -> Result<(), Refusal> {
+        match number {
+            0 => Ok(()),
+            number => Err(Refusal::of(number as u16)),
+        }
     }
 
     /// The number that the C header has for it.
@@ -76,6 +90,8 @@ impl Refusal {
             Refusal::NoQuestion => "no question is open: the run has ended, or its memory is not that of a run",
             Refusal::NotThatQuestion => "the answer's number is not that of the open question; the run waits as before",
             Refusal::Shape => "the samples are not in tens, or the output has fewer than six numbers a time",
+            Refusal::StoredShape => "there are not 2,048 bytes, or a block's number or check is wrong: cut short, damaged, or no stored run",
+            Refusal::StoredContent => "the blocks are whole, but hold no run: another form number, or what no run has",
             Refusal::Other(_) => "a refusal that this crate has no name for",
         }
     }
@@ -101,14 +117,15 @@ mod tests {
         }
         assert_eq!(Refusal::of(1), Refusal::StepNotFinite);
         assert_eq!(Refusal::of(9), Refusal::Shape);
+        assert_eq!(Refusal::of(11), Refusal::StoredContent);
         assert_eq!(Refusal::of(0), Refusal::Other(0));
-        assert_eq!(Refusal::of(10), Refusal::Other(10));
+        assert_eq!(Refusal::of(12), Refusal::Other(12));
     }
 
     #[test]
     fn each_has_a_text_of_its_own() {
-        let texts: HashSet<_> = (1..=10).map(|n| Refusal::of(n).text()).collect();
-        assert_eq!(texts.len(), 10);
+        let texts: HashSet<_> = (1..=12).map(|n| Refusal::of(n).text()).collect();
+        assert_eq!(texts.len(), 12);
         let error: &dyn std::error::Error = &Refusal::NotThatQuestion;
         let said = "the answer's number is not that of the open question; the run waits as before (refusal 8)";
         assert_eq!(error.to_string(), said);

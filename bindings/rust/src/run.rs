@@ -12,7 +12,7 @@ pub enum Reply {
     Done { t: f64, r: Triple, v: Triple, evals: u64, steps: u64, startup_iters: u64 },
 }
 
-fn read(reply: raw::Reply) -> Result<Reply, Refusal> {
+pub(crate) fn read(reply: raw::Reply) -> Result<Reply, Refusal> {
     let raw::Reply { t, r, v, evals, steps, startup_iters, kind, refusal, number } = reply;
     match kind {
         0 => Ok(Reply::Ask { number, t, r, v }),
@@ -21,12 +21,13 @@ fn read(reply: raw::Reply) -> Result<Reply, Refusal> {
     }
 }
 
-/// An integration under way: plain data of 1,056 bytes. A clone goes on by itself, from the same question.
+/// An integration under way: plain data of 1,056 bytes. A clone goes on by itself, from the same question. [`Run::store`] puts it away
+/// for another day, [`Run::load`] takes it up.
 ///
 /// Different runs may be answered from different threads at once.
 #[must_use = "a run goes no further until it is answered"]
 #[derive(Clone)]
-pub struct Run(raw::Run);
+pub struct Run(pub(crate) raw::Run);
 
 impl Run {
     /// A run from `t0` towards `tf`, with its first question.

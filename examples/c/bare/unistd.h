@@ -2,4 +2,5 @@
 #ifndef BARE_UNISTD_H
 #define BARE_UNISTD_H
 int isatty(int file);
+int fsync(int file);
 #endif

@@ -1,9 +1,11 @@
 // SPDX-License-Identifier: MIT OR Apache-2.0
 //! An orbit 400 km up, carried forward for a day in one-minute steps, and read off between the steps. The same orbit as examples/c,
 //! over the safe crate; each operation of the force in the same order, so that both give the same bits. Units are km and seconds.
+mod away;
 mod print;
 
-use gauss_jackson::{numbers_for, Finished, Refusal, Run, Sample, Settings, State, Triple};
+pub use away::away_main;
+use gauss_jackson::{numbers_for, Finished, Refusal, Reply, Run, Sample, Settings, State, Triple};
 
 const STEPS: usize = 1440;
 const ROWS: usize = 24;
@@ -30,15 +32,20 @@ fn force(r: Triple) -> Triple {
     Triple { x: (-MU * r.x) / cube, y: (-MU * r.y) / cube, z: (-MU * r.z) / cube }
 }
 
-/// Fills the samples, one for each step and one for the start, and tells the finished state. The library has no force of its own: it
-/// asks, here by `drive`, for one after another; an app that answers at its own pace uses `Run::answer`.
-fn carry_forward(samples: &mut [f64]) -> Result<Finished, Refusal> {
+/// The run of a day, with its first question.
+fn start_day(samples: bool) -> Result<(Run, Reply), Refusal> {
     let speed = (MU / RADIUS).sqrt();
     let r0 = Triple { x: RADIUS, y: 0.0, z: 0.0 };
     let v0 = Triple { x: 0.0, y: speed * INCLINATION.0, z: speed * INCLINATION.1 };
     // The default step is 60. Samples are off unless asked for, and the slice is then left alone.
-    let settings = Settings { samples: true, ..Settings::default() };
-    let (mut run, _) = Run::start(settings, 0.0, DAY, r0, v0)?;
+    let settings = Settings { samples, ..Settings::default() };
+    Run::start(settings, 0.0, DAY, r0, v0)
+}
+
+/// Fills the samples, one for each step and one for the start, and tells the finished state. The library has no force of its own: it
+/// asks, here by `drive`, for one after another; an app that answers at its own pace uses `Run::answer`.
+fn carry_forward(samples: &mut [f64]) -> Result<Finished, Refusal> {
+    let (mut run, _) = start_day(true)?;
     run.drive(|_t, r, _v| force(r), samples)
 }
 
