@@ -1,31 +1,29 @@
 -- Every run of a line is as the machine has it, where the numbers that come from outside are: each float that is worked out is rounded to
 -- binary64, and every row keeps its nine.
-use mathlib.Core.Path.{_≡_, refl, sym, _∙_, ap, subst}
-use mathlib.Core.Logic.{_≢_}
-use Prim.Native.Nat.{ℕ, zero, suc, _+_, _-_, _*_, _/_, _%_, _≤_, _<_}
-use native.Mathlib.Omega.{arith}
-use mathlib.Core.Bool.{Bool, true, false, _||_, cond}
+use mathlib.Core.Path.{_≡_, refl, _∙_}
+use Prim.Native.Nat.{ℕ, zero, suc}
+use mathlib.Core.Bool.{Bool, true, false, _||_}
 use mathlib.Core.List.{List, [], _∷_}
-use lib.Dec.{T, eqb, ltb}
-use lib.ListN.{length, set, getD, length-set, List·getD-eq-default}
+use lib.Dec.{eqb, ltb}
+use lib.ListN.{length, set, length-set}
 use lib.Seq.{getD-set-same, getD-set-other, set-out}
-use lib.Ieee.{Float, nan, inf, fin, binary64, fits, lt, isNan, add, neg}
-use lib.Ieee.Fits.{add-fits, sub-fits, mul-fits, div-fits, round-fits, cond-fits, nan-fits, inf-fits}
+use lib.Ieee.{Float, nan, inf, fin, binary64, fits, lt, isNan}
+use lib.Ieee.Fits.{add-fits, sub-fits, mul-fits, round-fits, cond-fits, nan-fits, inf-fits}
 use borrow.Author.Tests.{eqb-true, eqb-false, ltb-true, ltb-false}
 use Rattle.triple.specs.declared.Triple.{Triple}
 use Rattle.triple.specs.declared.State.{State}
 use Rattle.triple.specs.declared.Point.{Point}
-use Rattle.triple.specs.Arithmetic.{nought, zeros, plus, minus, times, over}
+use Rattle.triple.specs.Arithmetic.{nought, zeros, plus, minus, times}
 use Rattle.triple.specs.Size.{absolute, largerOf, sizeOf}
 use Rattle.triple.specs.Nine.{at, nineZeros, slid}
 use Rattle.rk4.specs.Rk4.{endOfStep}
 use Rattle.sums.specs.declared.Sums.{Sums}
 use Rattle.sums.specs.declared.Fixed.{Fixed}
 use Rattle.sums.specs.Weighted.{weightedNext, fixedA, fixedB}
-use Rattle.sums.specs.Sums.{epochSums, onSums, pointOf, predictedState, fixedOf, correctedState}
+use Rattle.sums.specs.Sums.{onSums, pointOf, predictedState, fixedOf, correctedState}
 use Rattle.startup.specs.declared.Places.{Places}
 use Rattle.startup.specs.declared.Widest.{Widest}
-use Rattle.startup.specs.Points.{timeAt, stateAt, firstPlaces, placed}
+use Rattle.startup.specs.Points.{timeAt, placed}
 use Rattle.resumed.specs.Outside.{Double, Doubles}
 use Rattle.startup.specs.Passes.{sumsOn, lastSums, tiny, widened, calmAt, pointOn, pointBack, pointsOn, pointsBack, passPlaces}
 

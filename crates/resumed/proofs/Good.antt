@@ -1,46 +1,20 @@
 -- A body whose numbers are the machine's stays one.
-use mathlib.Core.Path.{_≡_, refl, sym, _∙_, ap}
-use Prim.Native.Nat.{ℕ, zero, suc, _+_, _-_, _*_, _/_, _%_, _≤_, _<_}
-use native.Mathlib.Omega.{arith}
-use mathlib.Core.Bool.{Bool, true, false, cond}
-use mathlib.Core.List.{List, [], _∷_}
-use lib.Dec.{eqb, ltb}
-use lib.ListN.{length}
-use lib.Ieee.{Float, binary64}
-use lib.Ieee.Fits.{add-fits, mul-fits, cond-fits}
+use Prim.Native.Nat.{ℕ, _+_, _-_}
+use lib.Ieee.{binary64}
+use lib.Ieee.Fits.{add-fits}
 use Rattle.triple.specs.declared.Triple.{Triple}
 use Rattle.triple.specs.declared.State.{State}
-use Rattle.triple.specs.declared.Sample.{Sample}
-use Rattle.triple.specs.Arithmetic.{nought, zeros}
-use Rattle.triple.specs.Nine.{at}
-use Rattle.sums.specs.Sums.{correctedState}
 use Rattle.startup.specs.Points.{stateAt, firstPlaces}
-use Rattle.startup.specs.Passes.{isSettled}
-use Rattle.run.specs.declared.Settings.{Settings}
 use Rattle.run.specs.declared.Plan.{Plan}
 use Rattle.run.specs.declared.Slopes.{Slopes}
 use Rattle.run.specs.declared.Track.{Track}
 use Rattle.run.specs.declared.Trial.{Trial}
-use Rattle.run.specs.declared.Count.{Count}
 use Rattle.run.specs.declared.Body.{Body}
-use Rattle.run.specs.declared.Run.{Run}
 use Rattle.run.specs.declared.waiting.Stage.{Stage}
 use Rattle.run.specs.declared.waiting.Stage.the-variants.{First, Second, Third, Fourth}
-use Rattle.run.specs.declared.waiting.Waiting.{Waiting}
-use Rattle.run.specs.declared.waiting.Waiting.the-variants.{Epoch, Forward, Backward, Survey, Pass, Step, Tail, TailSample, Ended, Unknown}
-use Rattle.run.specs.Plan.{planOf, isTooNear}
-use Rattle.run.specs.Limits.{areWithinLimits, wantsSamples}
-use Rattle.run.specs.Formulas.{isDue, isTail, isAtRest, startTrack, trackOn}
-use Rattle.run.specs.Waiting.{waitsAt, isLast, stageAfter, nextPoint}
-use Rattle.run.specs.Moves.{freshBody, surveyed, withSlope, kept, endOf, movedOn, movedBack, passBegun, renewed, passMade, launched, predicted, tried, committed, endOfTail}
-use Rattle.run.specs.Samples.{hasRoom}
-use Rattle.run.specs.Sound.{isSound}
-use Rattle.gauss_jackson.specs.declared.Answered.{Answered}
-use Rattle.gauss_jackson.specs.declared.Outcome.{Outcome}
-use Rattle.gauss_jackson.specs.declared.Verdict.{Verdict}
-use Rattle.gauss_jackson.specs.declared.Verdict.the-variants.{Fine, Refuse}
-use Rattle.gauss_jackson.specs.Answers.{noPlan, endedRun, ending, asking, onward, Given, quiet, sampling, startupEnded, stepEnded, passesOn, passEnded, rk4Taken, forwardEnded, backwardEnded, tailEnded, surveyTaken, passTaken, stepTaken, lastTaken, answeredAt, refusing, answered, verdictOn, startedBy, started, nextCount}
-use Rattle.resumed.proofs.Fitting.{F, Fit, FitState, FitSums, FitWidest, FitPlaces, Row, nought-fits, zeros-fit, end-fit, predicted-fit, corrected-fit, fixed-fit, on-fit, last-fit, time-fit, widened-fit, row-set, zeros-row, slide-row, placed-fit, pass-fit, calm-fit}
+use Rattle.run.specs.Formulas.{startTrack, trackOn}
+use Rattle.run.specs.Moves.{freshBody, surveyed, withSlope, kept, endOf, movedOn, movedBack, passBegun, renewed, passMade, launched, predicted, tried, committed}
+use Rattle.resumed.proofs.Fitting.{F, Fit, FitState, FitSums, FitWidest, FitPlaces, Row, nought-fits, zeros-fit, end-fit, predicted-fit, fixed-fit, on-fit, last-fit, time-fit, widened-fit, row-set, zeros-row, slide-row, placed-fit, pass-fit, calm-fit}
 
 pub record FitPlan (p : Plan) : Type 0 where
   pub step : F (p .settings .h)
@@ -76,42 +50,42 @@ pub record Good (b : Body) : Type 0 where
 
 -- ---- the moves
 module _ (b : Body) (g : Good b) where
-  surveyed-good : (i : ℕ) (x : Triple) → Fit x → Good (surveyed i b x)
+  pub surveyed-good : (i : ℕ) (x : Triple) → Fit x → Good (surveyed i b x)
   unfolding surveyed
   surveyed-good i x h = record { plan = g .plan; places = g .places; a = row-set _ i x (g .a) h; slopes = g .slopes; widest = g .widest; track = g .track; trial = g .trial }
 
-  slopes-good : (s : Stage) (x : Triple) → Fit x → FitSlopes (withSlope s (b .slopes) x)
+  pub slopes-good : (s : Stage) (x : Triple) → Fit x → FitSlopes (withSlope s (b .slopes) x)
   unfolding withSlope
   slopes-good First x h = record { l1 = h; l2 = g .slopes .l2; l3 = g .slopes .l3 }
   slopes-good Second x h = record { l1 = g .slopes .l1; l2 = h; l3 = g .slopes .l3 }
   slopes-good Third x h = record { l1 = g .slopes .l1; l2 = g .slopes .l2; l3 = h }
   slopes-good Fourth x h = g .slopes
 
-  kept-good : (s : Stage) (x : Triple) → Fit x → Good (kept s b x)
+  pub kept-good : (s : Stage) (x : Triple) → Fit x → Good (kept s b x)
   unfolding kept
   kept-good s x h = record { plan = g .plan; places = g .places; a = g .a; slopes = slopes-good s x h; widest = g .widest; track = g .track; trial = g .trial }
 
-  on-good : (i : ℕ) (x : Triple) → Good (movedOn i b x)
+  pub on-good : (i : ℕ) (x : Triple) → Good (movedOn i b x)
   unfolding movedOn endOf
   on-good i x = record { plan = g .plan; places = placed-fit (i + 1) _ _ (end-fit _ _ _ _ _ _) (g .places); a = g .a; slopes = g .slopes; widest = g .widest; track = g .track; trial = g .trial }
 
-  back-good : (i : ℕ) (x : Triple) → Good (movedBack i b x)
+  pub back-good : (i : ℕ) (x : Triple) → Good (movedBack i b x)
   unfolding movedBack endOf
   back-good i x = record { plan = g .plan; places = placed-fit (i - 1) _ _ (end-fit _ _ _ _ _ _) (g .places); a = g .a; slopes = g .slopes; widest = g .widest; track = g .track; trial = g .trial }
 
-  begun-good : Good (passBegun b)
+  pub begun-good : Good (passBegun b)
   unfolding passBegun
   begun-good = record { plan = g .plan; places = pass-fit _ _ _ (g .places); a = g .a; slopes = g .slopes; widest = calm-fit _ (g .a); track = g .track; trial = g .trial }
 
-  renewed-good : (i : ℕ) (x : Triple) → Fit x → Good (renewed i b x)
+  pub renewed-good : (i : ℕ) (x : Triple) → Fit x → Good (renewed i b x)
   unfolding renewed
   renewed-good i x h = record { plan = g .plan; places = g .places; a = row-set _ i x (g .a) h; slopes = g .slopes; widest = widened-fit _ _ _ (g .widest) h; track = g .track; trial = g .trial }
 
-  made-good : Good (passMade b)
+  pub made-good : Good (passMade b)
   unfolding passMade
   made-good = record { plan = g .plan; places = g .places; a = g .a; slopes = g .slopes; widest = g .widest; track = g .track; trial = g .trial }
 
-  launched-good : Good (launched b)
+  pub launched-good : Good (launched b)
   unfolding launched startTrack stateAt
   launched-good =
       record {
@@ -124,7 +98,7 @@ module _ (b : Body) (g : Good b) where
         trial = g .trial;
       }
 
-  predicted-good : Good (predicted b)
+  pub predicted-good : Good (predicted b)
   unfolding predicted
   predicted-good =
       record {
@@ -137,11 +111,11 @@ module _ (b : Body) (g : Good b) where
         trial = record { state = predicted-fit _ _ _; fa = fixed-fit (b .a) .0; fb = fixed-fit (b .a) .1 };
       }
 
-  tried-good : (x : State) → FitState x → Good (tried b x)
+  pub tried-good : (x : State) → FitState x → Good (tried b x)
   unfolding tried
   tried-good x h = record { plan = g .plan; places = g .places; a = g .a; slopes = g .slopes; widest = g .widest; track = g .track; trial = record { state = h; fa = g .trial .fa; fb = g .trial .fb } }
 
-  committed-good : (y : State) (x : Triple) → FitState y → Fit x → Good (committed b y x)
+  pub committed-good : (y : State) (x : Triple) → FitState y → Fit x → Good (committed b y x)
   unfolding committed trackOn
   committed-good y x h k =
       record {
@@ -154,7 +128,7 @@ module _ (b : Body) (g : Good b) where
         trial = g .trial;
       }
 
-fresh-good : (p : Plan) (r0 v0 : Triple) → FitPlan p → Fit r0 → Fit v0 → Good (freshBody p r0 v0)
+pub fresh-good : (p : Plan) (r0 v0 : Triple) → FitPlan p → Fit r0 → Fit v0 → Good (freshBody p r0 v0)
 unfolding freshBody firstPlaces
 fresh-good p r0 v0 h r v =
     record {
@@ -166,113 +140,3 @@ fresh-good p r0 v0 h r v =
       track = record { t = nought-fits; state = record { r = zeros-fit; v = zeros-fit }; sums = record { s = zeros-fit; S = zeros-fit } };
       trial = record { state = record { r = zeros-fit; v = zeros-fit }; fa = zeros-fit; fb = zeros-fit };
     }
-
--- ---- the answers
-abbrev pub GoodRun : Run → Type 0
-GoodRun run = Good (run .body)
-
-pub record GoodA (x : Answered) : Type 0 where
-  pub body : Good (x .run .body)
-
-pub record GoodT (t : Given) : Type 0 where
-  pub got : GoodA (t .got)
-
-ended-good : (o : Outcome) → GoodA (ending o)
-unfolding ending endedRun noPlan
-ended-good o = record { body = fresh-good _ zeros zeros (record { step = nought-fits; corrector = nought-fits; startup = nought-fits; t0 = nought-fits; tf = nought-fits; h = nought-fits }) zeros-fit zeros-fit }
-
-asking-good : (w : Waiting) (c : Count) (b : Body) → Good b → GoodA (asking w c b)
-unfolding asking
-asking-good w c b g = record { body = g }
-
-either : (d : Bool) (x y : Answered) → GoodA x → GoodA y → GoodA (cond d x y)
-either true x y g h = g
-either false x y g h = h
-
-eitherT : (d : Bool) (x y : Given) → GoodT x → GoodT y → GoodT (cond d x y)
-eitherT true x y g h = g
-eitherT false x y g h = h
-
-onward-good : (c : Count) (b : Body) → Good b → GoodA (onward c b)
-unfolding onward
-onward-good c b g =
-    either (isDue (b .plan) (b .track .t)) _ _
-    (either (ltb (b .track .steps) (b .plan .settings .«max_steps»)) _ _ (either (isTail (b .plan) (b .track .t)) _ _ (asking-good (Tail First) c b g) (asking-good (Step 0) c (predicted b) (predicted-good b g))) (ended-good _))
-    (ended-good _)
-
-sampling-good : (n : ℕ) (ss : List Sample) (b : Body) (out : List Float) (x : Answered) → GoodA x → GoodT (sampling n ss b out x)
-unfolding sampling
-sampling-good n ss b out x g = eitherT (wantsSamples (b .plan .settings)) _ _ (eitherT (hasRoom n (length ss) out) _ _ (record { got = g }) (record { got = ended-good _ })) (record { got = g })
-
-startup-ended-good : (c : Count) (b : Body) (out : List Float) → Good b → GoodT (startupEnded c b out)
-unfolding startupEnded
-startup-ended-good c b out g = sampling-good _ _ _ _ _ (onward-good c (launched b) (launched-good b g))
-
-step-ended-good : (c : Count) (b : Body) (out : List Float) → Good b → GoodT (stepEnded c b out)
-unfolding stepEnded
-step-ended-good c b out g = sampling-good _ _ _ _ _ (onward-good c b g)
-
-passes-on-good : (c : Count) (b : Body) (out : List Float) → Good b → GoodT (passesOn c b out)
-unfolding passesOn
-passes-on-good c b out g = eitherT (ltb (b .«startup_iters») (b .plan .settings .«max_startup_iters»)) _ _ (record { got = asking-good (Pass 0) c (passBegun b) (begun-good b g) }) (startup-ended-good c b out g)
-
-pass-ended-good : (c : Count) (b : Body) (out : List Float) → Good b → GoodT (passEnded c b out)
-unfolding passEnded
-pass-ended-good c b out g = eitherT (isSettled (b .plan .settings .«startup_tol») (b .widest)) _ _ (startup-ended-good c (passMade b) out (made-good b g)) (passes-on-good c (passMade b) out (made-good b g))
-
-rk4-good : (w : Stage → Waiting) (s : Stage) (c : Count) (b : Body) (x : Triple) (y : Answered) → Good b → Fit x → GoodA y → GoodA (rk4Taken w s c b x y)
-unfolding rk4Taken
-rk4-good w s c b x y g h k = either (isLast s) y _ k (asking-good (w (stageAfter s)) c (kept s b x) (kept-good b g s x h))
-
-forward-good : (i : ℕ) (c : Count) (b : Body) (x : Triple) → Good b → GoodA (forwardEnded i c b x)
-unfolding forwardEnded
-forward-good i c b x g =
-    either (ltb i 7) _ _ (asking-good (Forward (i + 1) First) c (movedOn i b x) (on-good b g i x)) (asking-good (Backward 4 First) c (movedOn i b x) (on-good b g i x))
-
-backward-good : (i : ℕ) (c : Count) (b : Body) (x : Triple) → Good b → GoodA (backwardEnded i c b x)
-unfolding backwardEnded
-backward-good i c b x g =
-    either (ltb 1 i) _ _ (asking-good (Backward (i - 1) First) c (movedBack i b x) (back-good b g i x)) (asking-good (Survey 0) c (movedBack i b x) (back-good b g i x))
-
-step-good : (n : ℕ) (c : Count) (b : Body) (x : Triple) (out : List Float) → Good b → Fit x → GoodT (stepTaken n c b x out)
-unfolding stepTaken
-step-good n c b x out g h =
-    let y = correctedState (b .plan .h) (b .track .sums) (b .trial .fixed) x in
-    eitherT (ltb n (b .plan .settings .«max_corrector_iters»)) _ _
-    (eitherT (isAtRest (b .plan .settings .«corrector_tol») (b .trial .state) y) _ _ (step-ended-good c (committed b y x) out (committed-good b g y x (corrected-fit _ _ _ _) h)) (record { got = asking-good (Step (n + 1)) c (tried b y) (tried-good b g y (corrected-fit _ _ _ _)) }))
-    (step-ended-good c (committed b (b .trial .state) x) out (committed-good b g (b .trial .state) x (g .trial .state) h))
-
-tail-good : (c : Count) (b : Body) (x : Triple) → Good b → GoodA (tailEnded c b x)
-unfolding tailEnded
-tail-good c b x g =
-    either (wantsSamples (b .plan .settings)) _ _ (asking-good TailSample c (tried b (endOfTail b x)) (tried-good b g (endOfTail b x) (unfold endOfTail endOf in end-fit _ _ _ _ _ _))) (ended-good _)
-
-answered-at-good : (w : Waiting) (c : Count) (b : Body) (x : Triple) (out : List Float) → Good b → Fit x → GoodT (answeredAt w c b x out)
-unfolding answeredAt surveyTaken passTaken lastTaken
-answered-at-good Epoch c b x out g h = record { got = asking-good (Forward 4 First) c (surveyed 4 b x) (surveyed-good b g 4 x h) }
-answered-at-good (Forward i s) c b x out g h = record { got = rk4-good (λ (t : Stage). Forward i t) s c b x _ g h (forward-good i c b x g) }
-answered-at-good (Backward i s) c b x out g h = record { got = rk4-good (λ (t : Stage). Backward i t) s c b x _ g h (backward-good i c b x g) }
-answered-at-good (Survey i) c b x out g h =
-    eitherT (ltb i 8) _ _ (record { got = asking-good (Survey (nextPoint i)) c (surveyed i b x) (surveyed-good b g i x h) }) (passes-on-good c (surveyed i b x) out (surveyed-good b g i x h))
-answered-at-good (Pass i) c b x out g h =
-    eitherT (ltb i 8) _ _ (record { got = asking-good (Pass (nextPoint i)) c (renewed i b x) (renewed-good b g i x h) }) (pass-ended-good c (renewed i b x) out (renewed-good b g i x h))
-answered-at-good (Step n) c b x out g h = step-good n c b x out g h
-answered-at-good (Tail s) c b x out g h = record { got = rk4-good (λ (t : Stage). Tail t) s c b x _ g h (tail-good c b x g) }
-answered-at-good TailSample c b x out g h = sampling-good _ _ _ _ _ (ended-good _)
-answered-at-good Ended c b x out g h = record { got = ended-good _ }
-answered-at-good Unknown c b x out g h = record { got = ended-good _ }
-
-pub answered-good : (run : Run) (n : ℕ) (x : Triple) (out : List Float) → GoodRun run → Fit x → GoodT (answered run n x out)
-unfolding answered refusing
-answered-good run n x out g h =
-    eitherT (isSound run) _ _ (eitherT (eqb (run .mark .count .number) n) _ _ (answered-at-good (waitsAt (run .mark)) (nextCount (run .mark .count)) (run .body) x out g h) (record { got = record { body = g } })) (record { got = record { body = g } })
-
-started-by-good : (v : Verdict) (p : Plan) (r0 v0 : Triple) → FitPlan p → Fit r0 → Fit v0 → GoodA (startedBy v p r0 v0)
-unfolding startedBy
-started-by-good Fine p r0 v0 h r v = asking-good Epoch _ _ (fresh-good p r0 v0 h r v)
-started-by-good (Refuse e) p r0 v0 h r v = ended-good _
-
-pub started-good : (s : Settings) (t0 tf : Float) (r0 v0 : Triple) → F (s .h) → F (s .«corrector_tol») → F (s .«startup_tol») → F t0 → F tf → Fit r0 → Fit v0 → GoodA (started s t0 tf r0 v0)
-unfolding started planOf
-started-good s t0 tf r0 v0 a b c d e r v =
-    started-by-good (verdictOn (planOf s t0 tf)) (planOf s t0 tf) r0 v0 (record { step = a; corrector = b; startup = c; t0 = d; tf = e; h = mul-fits binary64 _ _ }) r v

@@ -3,21 +3,18 @@ use mathlib.Core.Path.{_≡_, refl, sym, _∙_, ap, ap₂}
 use Prim.Native.Nat.{ℕ, zero, suc}
 use mathlib.Core.Bool.{Bool, true, false, cond}
 use mathlib.Core.List.{List, [], _∷_, _++_}
-use lib.ListN.{length, getD, replicate, length-replicate}
+use lib.ListN.{length, getD, length-replicate}
 use lib.Ieee.{Float}
-use Rattle.triple.specs.declared.Triple.{Triple}
 use Rattle.refusals.specs.Numbers.{numberOf}
 use Rattle.refusals.specs.declared.Refusal.the-variants.{StoredShape}
-use Rattle.run.specs.declared.Settings.{Settings}
 use Rattle.run.specs.declared.Run.{Run}
 use Rattle.run.specs.Waiting.{waitsAt}
 use Rattle.run.specs.Questions.{questionAt}
 use Rattle.run.specs.Sound.{isSound}
-use Rattle.run.proofs.Decoding.{read}
 use Rattle.gauss_jackson.specs.declared.Answered.{Answered}
 use Rattle.gauss_jackson.specs.Answers.{answered, started, refusing}
 use Rattle.rules.specs.Rules.{Course}
-use Rattle.rules.specs.Walk.{Said, refused, told, Call, Result, Stop, Line, open-at, over, begin}
+use Rattle.rules.specs.Walk.{Said, refused, told, Call, Result, Stop, Line, open-at, over}
 use Rattle.rules.specs.Follows.{heard}
 use Rattle.rules.proofs.Rest.{next, restAt, rest, opened, lineOf, seen}
 use Rattle.rules.proofs.Calls.{call-is}
@@ -29,7 +26,7 @@ use Rattle.stored.specs.Trips.{cleaned}
 use Rattle.stored.proofs.Cleaned.{sound-same, stored-is-loaded}
 use Rattle.resumed.specs.Outside.{Doubles}
 use Rattle.resumed.specs.Lines.{Event, call, put-away, take-up, blank, addedBy, added, loadHeard, played, kept, backTo, followed, CallsDoubles, FollowsWithForms}
-use Rattle.resumed.proofs.Good.{GoodRun, answered-good, started-good}
+use Rattle.resumed.proofs.Going.{GoodRun, answered-good, started-good}
 use Rattle.resumed.proofs.Machine.{machine, clean-good}
 use Rattle.resumed.proofs.Same.{rest-same}
 

@@ -1,27 +1,24 @@
 -- A run as the machine has it: every float is an f64, every row has nine.
-use mathlib.Core.Path.{_≡_, refl, sym, _∙_, ap}
+use mathlib.Core.Path.{_≡_}
 use Prim.Native.Nat.{ℕ, _*_, _+_, _/_, _%_, _<_}
-use mathlib.Core.Bool.{Bool, true, false, cond}
-use mathlib.Core.List.{List, [], _∷_}
+use mathlib.Core.List.{List}
 use lib.Dec.{eqb}
 use lib.ListN.{length}
-use lib.Ieee.{Float, binary64}
+use lib.Ieee.{binary64}
 use lib.Ieee.Fits.{cond-fits}
 use Rattle.triple.specs.declared.Triple.{Triple}
 use Rattle.triple.specs.Arithmetic.{nought}
-use Rattle.triple.specs.Nine.{at}
 use Rattle.run.specs.declared.Body.{Body}
 use Rattle.run.specs.declared.Run.{Run}
 use Rattle.run.specs.Waiting.{waitsAt}
-use Rattle.run.specs.Sound.{isSound}
-use Rattle.gauss_jackson.specs.Answers.{answered}
 use Rattle.blocks.specs.Rows.{row}
 use Rattle.stored.specs.declared.layout.Uses.{Uses}
 use Rattle.stored.specs.Layout.{usesOf, used, triplesOf, component, floatNo}
 use Rattle.stored.specs.Taken.{bodyFrom}
 use Rattle.stored.specs.Trips.{Floats, keptFloat, keptTriple, cleaned}
 use Rattle.resumed.proofs.Fitting.{F, Fit, All, all-at, nine-row, nought-fits}
-use Rattle.resumed.proofs.Good.{Good, GoodRun}
+use Rattle.resumed.proofs.Good.{Good}
+use Rattle.resumed.proofs.Going.{GoodRun}
 
 all-fit : (b : Body) → Good b → All (triplesOf b)
 unfolding triplesOf

@@ -1,18 +1,14 @@
 -- Older forms: what is told after any events is told to the calls that count.
-use mathlib.Core.Path.{_≡_, refl, sym, _∙_, ap, ap₂}
+use mathlib.Core.Path.{_≡_, refl, sym, _∙_, ap}
 use Prim.Native.Nat.{ℕ, zero, suc}
-use mathlib.Core.Bool.{Bool, true, false, cond, false≢true}
+use mathlib.Core.Bool.{true, false, cond, false≢true}
 use mathlib.Core.List.{List, [], _∷_, _++_, map}
 use lib.ListN.{getD}
-use lib.Ieee.{Float}
-use Rattle.triple.specs.declared.Triple.{Triple}
-use Rattle.run.specs.declared.Settings.{Settings}
-use Rattle.gauss_jackson.specs.Answers.{started}
 use Rattle.rules.specs.Walk.{Call, Result, Line, open-at, over, called, walk, begin}
 use Rattle.rules.proofs.Follows.{follows-the-rules}
 use Rattle.counting.proofs.Runs.{finishes-on-time}
-use Rattle.resumed.specs.Lines.{Event, call, put-away, take-up, CallsDoubles, played, kept, backTo, followed}
-use Rattle.resumed.specs.Older.{lineAfter, isOpen, countingCalls, countAfter, DropsTheAnswers, OlderForms, FinishesWithForms, DemandThreeWithForms}
+use Rattle.resumed.specs.Lines.{Event, call, put-away, take-up, CallsDoubles, kept, backTo, followed}
+use Rattle.resumed.specs.Older.{lineAfter, isOpen, countingCalls, countAfter, OlderForms, DemandThreeWithForms}
 use Rattle.resumed.proofs.Lines.{follows-with-forms}
 
 -- ---- lists of calls one after the other

@@ -1,7 +1,6 @@
 -- W-201: "Taking up an older form drops the answers accepted since: they no longer count and are asked again."
 -- The proofs are `drops-the-answers` and `finishes-with-forms` in proofs/Older.antt.
 use mathlib.Core.Path.{_≡_}
-use Prim.Native.Nat.{ℕ}
 use mathlib.Core.Bool.{Bool, true, false, cond}
 use mathlib.Core.List.{List, [], _∷_, _++_, map}
 use lib.IntN.{ℤ, natAbs}

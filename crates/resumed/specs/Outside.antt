@@ -1,5 +1,4 @@
 -- What comes from outside is f64, as Rattle's types have it: the promises about stored forms, which hold the bits of floats, speak of such numbers.
-use mathlib.Core.List.{List}
 use lib.Dec.{T}
 use lib.Ieee.{Float, binary64, fits}
 use Rattle.triple.specs.declared.Triple.{Triple}

@@ -1,24 +1,22 @@
 -- "Storing a loaded form gives the same bytes": word for word, the content of a content's run is the content, but for the patterns of NaN.
-use mathlib.Core.Path.{_≡_, refl, sym, _∙_, ap, ap₂}
-use mathlib.Core.Logic.{_≢_, ⊎-elim}
+use mathlib.Core.Path.{_≡_, refl, sym, _∙_, ap}
+use mathlib.Core.Logic.{⊎-elim}
 use Prim.Native.Nat.{ℕ, zero, suc, _+_, _-_, _*_, _/_, _%_, _^_, _≤_, _<_}
 use native.Mathlib.Nat.{eq-or-lt-of-le}
 use native.Mathlib.Omega.{arith}
-use mathlib.Core.Bool.{Bool, true, false, not, _&&_, cond}
+use mathlib.Core.Bool.{Bool, true, false, _&&_, cond}
 use mathlib.Core.List.{List}
-use lib.Dec.{T, eqb, ltb, leb}
+use lib.Dec.{ltb, leb}
 use lib.ListN.{length, getD}
 use lib.Ieee.{Float, nan, inf, fin, binary64, isNan, toBits, ofBits}
 use lib.Ieee.Bits.{toBits-ofBits}
-use borrow.Author.Tests.{eq-eqb, ne-eqb, lt-ltb, le-ltb, lt-leb, le-leb, eqb-true, eqb-false, ltb-true, ltb-false}
+use borrow.Author.Tests.{lt-ltb, lt-leb, le-leb, eqb-true, ltb-true, ltb-false}
 use Rattle.triple.specs.declared.Triple.{Triple}
-use Rattle.triple.specs.Nine.{at}
-use Rattle.triple.specs.Arithmetic.{nought, zeros}
 use Rattle.triple.proofs.Tests.{fails}
 use Rattle.run.specs.Waiting.{waitsAt}
 use Rattle.blocks.specs.Rows.{row}
 use Rattle.blocks.specs.Trips.{Below}
-use Rattle.blocks.proofs.Filled.{at-row, row-of, same-row}
+use Rattle.blocks.proofs.Filled.{at-row, same-row}
 use Rattle.blocks.proofs.Whole.{apart}
 use Rattle.stored.specs.declared.layout.Uses.{Uses}
 use Rattle.stored.specs.Layout.{usesOf, used, triplesOf, component, floatNo}

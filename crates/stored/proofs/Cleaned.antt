@@ -1,15 +1,14 @@
 -- A stored run, loaded, is what its waiting point uses of it.
 use mathlib.Core.Path.{_≡_, refl, sym, _∙_, ap, ap₂}
 use Prim.Native.Nat.{ℕ, zero, suc, _+_, _-_, _*_, _/_, _%_, _^_, _≤_, _<_}
-use native.Mathlib.Nat.{div-add-mod'}
 use native.Mathlib.Omega.{arith}
 use mathlib.Core.Bool.{Bool, true, false, _&&_, _||_, cond}
 use mathlib.Core.List.{List, [], _∷_}
-use lib.Dec.{T, eqb, ltb, leb}
+use lib.Dec.{T, eqb, ltb}
 use lib.ListN.{length, getD, List·getD-eq-default}
-use lib.Ieee.{Float, binary64, fits, toBits, ofBits, top}
+use lib.Ieee.{binary64, fits, toBits, ofBits}
 use lib.Ieee.Bits.{ofBits-toBits, toBits-lt}
-use borrow.Author.Tests.{eq-eqb, ne-eqb, lt-ltb, le-ltb, le-leb, eqb-true, ltb-true, ltb-false}
+use borrow.Author.Tests.{eq-eqb, le-leb, eqb-true, ltb-true, ltb-false}
 use Rattle.triple.specs.declared.Triple.{Triple}
 use Rattle.triple.specs.Arithmetic.{nought}
 use Rattle.run.specs.declared.Body.{Body}
@@ -17,19 +16,19 @@ use Rattle.run.specs.declared.Run.{Run}
 use Rattle.run.specs.declared.waiting.Waiting.{Waiting}
 use Rattle.run.specs.declared.waiting.Waiting.the-variants.{Epoch, Forward, Backward, Survey, Pass, Step, Tail, TailSample, Ended, Unknown}
 use Rattle.run.specs.Limits.{numbering, areWithinLimits, wantsSamples}
-use Rattle.run.specs.Waiting.{atNumber, indexNumber, stageAt, markAt, waitsAt}
+use Rattle.run.specs.Waiting.{atNumber, indexNumber, stageAt, waitsAt}
 use Rattle.run.specs.Sound.{isIdle, passCounts, isStartedUp, stepCounts, hasCounts, isSound}
 use Rattle.run.proofs.Decoding.{read}
 use Rattle.run.proofs.Counts.{to-facts}
 use Rattle.blocks.specs.Rows.{row}
-use Rattle.blocks.specs.Blocks.{form, contentOf, written}
+use Rattle.blocks.specs.Blocks.{written}
 use Rattle.blocks.specs.Trips.{Below}
 use Rattle.blocks.proofs.Filled.{length-row, at-row, same-row}
 use Rattle.blocks.proofs.Trips.{written-is-read}
 use Rattle.blocks.proofs.Whole.{apart}
 use Rattle.stored.specs.declared.layout.Uses.{Uses}
 use Rattle.stored.specs.Layout.{line, usesOf, used, triplesOf, floatNo}
-use Rattle.stored.specs.Content.{headOf, countsIn, half, floatWord, contentWord, contentFrom, contentOfRun}
+use Rattle.stored.specs.Content.{countsIn, half, floatWord, contentWord, contentFrom, contentOfRun}
 use Rattle.stored.specs.Taken.{floatAt, tripleAt, triplesIn, countsAt, bodyFrom, runOf, isKnown, wordUsed, stillZero, unusedIsZero, isStoredRun}
 use Rattle.stored.specs.Stored.{storedIn, takenUp, judged, loaded}
 use Rattle.stored.specs.Trips.{Floats, keptFloat, keptTriple, cleaned, StoredIsLoaded}

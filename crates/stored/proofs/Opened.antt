@@ -1,8 +1,8 @@
 -- When `load` gives a question: each of its tests held.
-use mathlib.Core.Path.{_≡_, refl, sym, _∙_, ap}
+use mathlib.Core.Path.{_≡_, refl}
 use Prim.Native.Nat.{ℕ}
 use native.Mathlib.Omega.{arith}
-use mathlib.Core.Bool.{Bool, true, false, cond}
+use mathlib.Core.Bool.{Bool, true, false}
 use mathlib.Core.List.{List}
 use Rattle.refusals.specs.declared.Refusal.{Refusal}
 use Rattle.refusals.specs.declared.Refusal.the-variants.{StoredShape, StoredContent}
@@ -10,9 +10,8 @@ use Rattle.run.specs.declared.Run.{Run}
 use Rattle.run.specs.Waiting.{waitsAt}
 use Rattle.run.specs.Sound.{isSound}
 use Rattle.gauss_jackson.specs.declared.Question.{Question}
-use Rattle.gauss_jackson.specs.declared.Answered.{Answered}
 use Rattle.gauss_jackson.specs.declared.Outcome.{Outcome}
-use Rattle.gauss_jackson.specs.declared.Outcome.the-variants.{Ask, Done, Refused}
+use Rattle.gauss_jackson.specs.declared.Outcome.the-variants.{Ask, Refused}
 use Rattle.gauss_jackson.specs.Answers.{refusing}
 use Rattle.blocks.specs.Blocks.{isWhole, contentOf}
 use Rattle.run.proofs.Counts.{both}
