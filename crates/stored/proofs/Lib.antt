@@ -1,5 +1,6 @@
 pub mod Small
 pub mod Parts
+pub mod Words
 pub mod Unused
 pub mod Known
 pub mod Again

@@ -10,6 +10,7 @@ ghost use Rattle.blocks.specs.Rows.{filledFrom};
 ghost use Rattle.stored.specs.Content.{headOf, countsIn, half, floatWord, contentFrom, contentOfRun};
 use crate::layout;
 use crate::layout::Uses;
+use crate::triples;
 use run::Mark;
 use run::Run;
 use run::waiting;
@@ -128,7 +129,7 @@ pub fn content_of_run(run: Run) -> [u32; 504]
 {
     let u = layout::uses_of(waiting::waits_at(run.mark));
     let head = head_of(run.mark, u, run.body.plan.settings.samples);
-    let floats = layout::triples_of(run.body);
+    let floats = triples::triples_of(run.body);
     let counts = counts_in(run);
     content_from(head, u, floats, counts)
 }

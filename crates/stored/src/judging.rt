@@ -5,24 +5,14 @@ ghost use mathlib.Core.Bool.{true};
 ghost use Prim.Native.Nat.{_<_};
 ghost use Rattle.run.specs.Waiting.{waitsAt};
 ghost use Rattle.stored.specs.Layout.{usesOf};
-ghost use Rattle.stored.specs.Taken.{floatAt, tripleAt, triplesIn, countsAt, bodyFrom, isKnown, runOf, stillZero, sixZero, middleZero, unusedIsZero};
+ghost use Rattle.stored.specs.Taken.{floatAt, tripleAt, triplesIn, countsAt, isKnown, runOf, stillZero, sixZero, middleZero, unusedIsZero};
 use crate::layout;
 use crate::layout::Uses;
-use run::Body;
+use crate::triples;
 use run::Count;
 use run::Mark;
-use run::Plan;
 use run::Run;
-use run::Settings;
-use run::Slopes;
-use run::Track;
-use run::Trial;
 use run::waiting;
-use startup::Places;
-use startup::Widest;
-use sums::Fixed;
-use sums::Sums;
-use triple::State;
 use triple::Triple;
 
 // Float k.
@@ -76,78 +66,6 @@ fn counts_at(c: &[u32; 504]) -> [u64; 6]
     ]
 }
 
-// The mathematics of these floats and counts.
-fn body_from(f: [Triple; 41], n: [u64; 6], samples: u8) -> Body
-    ensures { λ b. ⌜ b ≡ bodyFrom f n samples ⌝ }
-{
-    let settings = Settings {
-        h: f[39].x,
-        corrector_tol: f[39].y,
-        startup_tol: f[39].z,
-        max_corrector_iters: n[0],
-        max_startup_iters: n[1],
-        max_steps: n[2],
-        samples,
-    };
-    let plan = Plan {
-        settings,
-        t0: f[40].x,
-        tf: f[40].y,
-        h: f[40].z,
-    };
-    let places = Places {
-        r: [f[0], f[1], f[2], f[3], f[4], f[5], f[6], f[7], f[8]],
-        v: [f[9], f[10], f[11], f[12], f[13], f[14], f[15], f[16], f[17]],
-    };
-    let a = [
-        f[18],
-        f[19],
-        f[20],
-        f[21],
-        f[22],
-        f[23],
-        f[24],
-        f[25],
-        f[26],
-    ];
-    let slopes = Slopes {
-        l1: f[27],
-        l2: f[28],
-        l3: f[29],
-    };
-    let widest = Widest {
-        delta: f[38].x,
-        mag: f[38].y,
-    };
-    let state = State { r: f[30], v: f[31] };
-    let sums = Sums {
-        s: f[32],
-        big_s: f[33],
-    };
-    let track = Track {
-        t: f[38].z,
-        steps: n[4],
-        state,
-        sums,
-    };
-    let end = State { r: f[34], v: f[35] };
-    let fixed = Fixed {
-        fa: f[36],
-        fb: f[37],
-    };
-    let trial = Trial { state: end, fixed };
-    Body {
-        plan,
-        places,
-        a,
-        slopes,
-        widest,
-        startup_iters: n[3],
-        track,
-        trial,
-    }
-}
-
 // Form 1, a waiting point that there is, a flag of 0 or 1; and no number that its place in a run could not hold.
 pub fn is_known(c: &[u32; 504]) -> bool
     ensures { λ b. ⌜ b ≡ isKnown (now (c .entry)) ⌝ }
@@ -188,7 +106,7 @@ pub fn run_of(c: &[u32; 504]) -> Run
             evals: counts[5],
         },
     };
-    let body = body_from(triples_in(c), counts, c[5] as u8);
+    let body = triples::body_from(triples_in(c), counts, c[5] as u8);
     Run { mark, body }
 }
 

@@ -1,11 +1,9 @@
 // SPDX-License-Identifier: MIT OR Apache-2.0
-// The layout: which floats of a run stand where, and which of them a waiting point uses.
+// Which floats of a run a waiting point uses. Where they stand is in `triples`.
 ghost use mathlib.Core.Path.{_≡_};
-ghost use Rattle.stored.specs.Layout.{nothingUsed, upToEpoch, usesOf, placeUsed, accelerationUsed, tripleUsed, used, triplesOf};
-use run::Body;
+ghost use Rattle.stored.specs.Layout.{nothingUsed, upToEpoch, usesOf, placeUsed, accelerationUsed, tripleUsed, used};
 use run::waiting;
 use run::waiting::Waiting;
-use triple::Triple;
 
 // What is used at a waiting point. Of the nine points' places those from `from` to `last`; of the accelerations those from `since` to
 // before `until`, but of the fourth `epoch` tells by itself; so many slopes of the open RK4 step.
@@ -191,82 +189,4 @@ pub fn is_used(u: Uses, k: usize) -> bool
         return u.clock;
     }
     triple_used(u, k / 3)
-}
-
-// The run's floats, three by three.
-pub fn triples_of(b: Body) -> [Triple; 41]
-    ensures { λ l. ⌜ l ≡ triplesOf b ⌝ }
-{
-    let r = b.places.r;
-    let v = b.places.v;
-    let a = b.a;
-    let l1 = b.slopes.l1;
-    let l2 = b.slopes.l2;
-    let l3 = b.slopes.l3;
-    let state_r = b.track.state.r;
-    let state_v = b.track.state.v;
-    let s = b.track.sums.s;
-    let big_s = b.track.sums.big_s;
-    let trial_r = b.trial.state.r;
-    let trial_v = b.trial.state.v;
-    let fa = b.trial.fixed.fa;
-    let fb = b.trial.fixed.fb;
-    let met = Triple {
-        x: b.widest.delta,
-        y: b.widest.mag,
-        z: b.track.t,
-    };
-    let settings = Triple {
-        x: b.plan.settings.h,
-        y: b.plan.settings.corrector_tol,
-        z: b.plan.settings.startup_tol,
-    };
-    let plan = Triple {
-        x: b.plan.t0,
-        y: b.plan.tf,
-        z: b.plan.h,
-    };
-    [
-        r[0],
-        r[1],
-        r[2],
-        r[3],
-        r[4],
-        r[5],
-        r[6],
-        r[7],
-        r[8],
-        v[0],
-        v[1],
-        v[2],
-        v[3],
-        v[4],
-        v[5],
-        v[6],
-        v[7],
-        v[8],
-        a[0],
-        a[1],
-        a[2],
-        a[3],
-        a[4],
-        a[5],
-        a[6],
-        a[7],
-        a[8],
-        l1,
-        l2,
-        l3,
-        state_r,
-        state_v,
-        s,
-        big_s,
-        trial_r,
-        trial_v,
-        fa,
-        fb,
-        met,
-        settings,
-        plan,
-    ]
 }

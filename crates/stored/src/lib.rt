@@ -12,6 +12,7 @@ use run::sound;
 mod content;
 mod judging;
 mod layout;
+mod triples;
 
 // The run as a stored form in `out`: 7, then 10, and then `out` is untouched.
 pub fn store(run: Run, out: &mut [u8]) -> Told

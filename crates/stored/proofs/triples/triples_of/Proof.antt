@@ -2,8 +2,8 @@
 use borrow.Author.Needs.{needs}
 use mathlib.Core.Path.{refl}
 use Rattle.stored.specs.Layout.{triplesOf}
-use Rattle.stored.proofs.layout.triples_of.Statement.{statement}
-use Rattle.stored.proofs.layout.triples_of.Tie as tie
+use Rattle.stored.proofs.triples.triples_of.Statement.{statement}
+use Rattle.stored.proofs.triples.triples_of.Tie as tie
 
 returns : tie.Need-returns
 unfolding triplesOf

@@ -2,8 +2,8 @@
 use mathlib.Core.Path.{refl}
 use borrow.Author.Needs.{needs}
 use Rattle.stored.specs.Taken.{bodyFrom}
-use Rattle.stored.proofs.judging.body_from.Statement.{statement}
-use Rattle.stored.proofs.judging.body_from.Tie as tie
+use Rattle.stored.proofs.triples.body_from.Statement.{statement}
+use Rattle.stored.proofs.triples.body_from.Tie as tie
 
 returns : tie.Need-returns
 unfolding bodyFrom
