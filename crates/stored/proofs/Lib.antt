@@ -8,3 +8,4 @@ pub mod Opened
 pub mod Trips
 pub mod Heads
 pub mod Cleaned
+pub mod Leaves

@@ -1,6 +1,6 @@
--- What storing and loading make of each other. The proofs are in proofs/.
+-- What storing and loading make of each other. The proofs are `loaded-is-stored`, `stored-is-loaded` and `leaves-as-it-was` in proofs/.
 use mathlib.Core.Path.{_≡_}
-use Prim.Native.Nat.{ℕ, _+_, _-_, _*_, _/_, _%_, _^_, _<_}
+use Prim.Native.Nat.{ℕ, _+_, _-_, _*_, _/_, _%_, _<_}
 use mathlib.Core.Bool.{Bool, true, _&&_, cond}
 use mathlib.Core.List.{List}
 use lib.Dec.{T, ltb, leb}
@@ -8,12 +8,14 @@ use lib.ListN.{length, getD}
 use lib.Ieee.{Float, binary64, isNan, fits}
 use Rattle.triple.specs.declared.Triple.{Triple}
 use Rattle.triple.specs.Arithmetic.{nought}
+use Rattle.refusals.specs.declared.Refusal.{Refusal}
 use Rattle.refusals.specs.declared.Told.the-variants.{Written}
+use Rattle.refusals.specs.declared.Told.the-variants as Told
 use Rattle.run.specs.declared.Run.{Run}
 use Rattle.run.specs.Waiting.{markAt, waitsAt}
 use Rattle.run.specs.Sound.{isSound}
 use Rattle.gauss_jackson.specs.declared.Question.{Question}
-use Rattle.gauss_jackson.specs.declared.Outcome.the-variants.{Ask}
+use Rattle.gauss_jackson.specs.declared.Outcome.the-variants.{Ask, Refused}
 use Rattle.blocks.specs.Rows.{row}
 use Rattle.blocks.specs.Blocks.{form, contentOf}
 use Rattle.blocks.specs.Trips.{Below}
@@ -69,3 +71,8 @@ Floats run = (k : ℕ) → k < 123 → T (fits binary64 (floatNo (triplesOf (run
 
 abbrev pub StoredIsLoaded : Type 0
 StoredIsLoaded = (held run : Run) (out : List ℕ) → isSound run ≡ true → Floats run → length out ≡ 2048 → loaded held (storedIn run out) ≡ takenUp (cleaned run)
+
+-- ---- a refusal leaves all as it was: the run that the caller of `load` holds, and the buffer that was lent to `store`
+pub record LeavesAsItWas : Type 0 where
+  pub held-run : (held : Run) (bytes : List ℕ) (e : Refusal) → loaded held bytes .outcome ≡ Refused e → loaded held bytes .run ≡ held
+  pub buffer : (run : Run) (out : List ℕ) (e : Refusal) → storing run out ≡ Told.Refused e → storedIn run out ≡ out
