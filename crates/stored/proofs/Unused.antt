@@ -8,7 +8,8 @@ use lib.ListN.{getD}
 use borrow.Author.Tests.{ne-eqb, lt-ltb, le-ltb}
 use Rattle.stored.specs.declared.layout.Uses.{Uses}
 use Rattle.stored.specs.Layout.{tripleUsed, used}
-use Rattle.stored.specs.Taken.{wordUsed, stillZero, sixZero, middleZero, unusedIsZero}
+use Rattle.stored.specs.Taken.{wordUsed, stillZero, unusedIsZero}
+use Rattle.stored.specs.Unused.{sixZero, middleZero}
 
 -- a word that is used changes nothing
 pub used-passes : (z : Bool) (w : ℕ) → stillZero z true w ≡ z

@@ -98,17 +98,6 @@ wordUsed u j =
 unfoldable pub stillZero : Bool → Bool → ℕ → Bool
 stillZero so-far is-used word = so-far && (is-used || eqb word 0)
 
--- the six words of a triple from word j on
-unfoldable pub sixZero : List ℕ → (j : ℕ) → (is-used so-far : Bool) → Bool
-sixZero c j d z =
-    stillZero (stillZero (stillZero (stillZero (stillZero (stillZero z d (getD c j 0)) d (getD c (j + 1) 0)) d (getD c (j + 2) 0)) d (getD c (j + 3) 0)) d (getD c (j + 4) 0)) d (getD c (j + 5) 0)
-
--- those of triple 38, which is used by parts
-unfoldable pub middleZero : List ℕ → Uses → (so-far : Bool) → Bool
-middleZero c u z =
-    let w = stillZero (stillZero (stillZero (stillZero z (u .widest) (getD c 234 0)) (u .widest) (getD c 235 0)) (u .widest) (getD c 236 0)) (u .widest) (getD c 237 0) in
-    stillZero (stillZero w (u .clock) (getD c 238 0)) (u .clock) (getD c 239 0)
-
 -- of the first n words each that is not used is zero
 unfoldable pub unusedIsZero : List ℕ → Uses → ℕ → Bool
 unusedIsZero c u zero = true

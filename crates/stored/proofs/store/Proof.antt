@@ -10,11 +10,11 @@ content-of-run-requires c κs = sym (c .before .is-sound .ensures) ∙ c .if1 .t
 
 returns : tie.Need-returns
 unfolding storing storedIn
-returns c = (rw (sym (c .before .before .before .before .before .before .before .before .is-sound .ensures) ∙ c .before .before .before .before .before .before .before .if1 .taken, sym (c .before .before .before .write-to .ensures .0) ∙ c .if2 .taken), rw (sym (c .before .before .before .before .before .before .before .before .is-sound .ensures) ∙ c .before .before .before .before .before .before .before .if1 .taken, ← c .before .before .before .before .before .before .content-of-run .ensures) (c .before .before .before .write-to .ensures .1))
+returns c = let past = c .before .before .before .before .before .before in (rw (sym (past .before .before .is-sound .ensures) ∙ past .before .if1 .taken, sym (c .before .before .before .write-to .ensures .0) ∙ c .if2 .taken), rw (sym (past .before .before .is-sound .ensures) ∙ past .before .if1 .taken, ← past .content-of-run .ensures) (c .before .before .before .write-to .ensures .1))
 
 returns-2 : tie.Need-returns-2
 unfolding storing storedIn
-returns-2 c = (rw (sym (c .before .before .before .before .before .before .before .before .is-sound .ensures) ∙ c .before .before .before .before .before .before .before .if1 .taken, sym (c .before .before .before .write-to .ensures .0) ∙ c .if2 .left), rw (sym (c .before .before .before .before .before .before .before .before .is-sound .ensures) ∙ c .before .before .before .before .before .before .before .if1 .taken, ← c .before .before .before .before .before .before .content-of-run .ensures) (c .before .before .before .write-to .ensures .1))
+returns-2 c = let past = c .before .before .before .before .before .before in (rw (sym (past .before .before .is-sound .ensures) ∙ past .before .if1 .taken, sym (c .before .before .before .write-to .ensures .0) ∙ c .if2 .left), rw (sym (past .before .before .is-sound .ensures) ∙ past .before .if1 .taken, ← past .content-of-run .ensures) (c .before .before .before .write-to .ensures .1))
 
 returns-3 : tie.Need-returns-3
 unfolding storing storedIn

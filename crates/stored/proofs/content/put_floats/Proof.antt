@@ -21,7 +21,7 @@ unfolding filledFrom
 loop-holds c = (search needs, refl)
 
 loop-again : tie.Need-loop-again Inv-loop μ-loop
-loop-again c = let h = six-floats (c .before .before .before .before .before .before .before .before .before .before .before .before .before .before .before .args .u) (c .before .before .before .before .before .before .before .before .before .before .before .before .before .before .before .args .t2) (c .before .before .before .before .before .before .before .before .before .before .before .before .before .before .loop .q) (c .before .before .before .before .before .before .before .before .before .before .before .before .before .before .before .args .content .now) in (search needs, cc)
+loop-again c = let past = c .before .before .before .before .before .before in let earlier = past .before .before .before .before .before .before in let h = six-floats (earlier .before .before .before .args .u) (earlier .before .before .before .args .t2) (earlier .before .before .loop .q) (earlier .before .before .before .args .content .now) in (search needs, cc)
 
 returns : tie.Need-returns Inv-loop μ-loop
 returns c = let e : 6 * c .before .loop .q ≡ 246 = omega arith in cc

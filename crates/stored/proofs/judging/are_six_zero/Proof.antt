@@ -1,7 +1,7 @@
 -- `are_six_zero`.
 use borrow.Author.Needs.{needs}
 use mathlib.Core.Path.{_≡_}
-use Rattle.stored.specs.Taken.{sixZero}
+use Rattle.stored.specs.Unused.{sixZero}
 use Rattle.stored.proofs.judging.are_six_zero.Statement.{statement}
 use Rattle.stored.proofs.judging.are_six_zero.Tie as tie
 

@@ -19,19 +19,19 @@ returns-3 c = simp (lt-leb _ _ (c .if3 .taken), le-leb _ _ (c .before .before .i
 
 returns-4 : tie.Need-returns-4
 unfolding isKnown
-returns-4 c = simp (lt-leb _ _ (c .if4 .taken), le-leb _ _ (c .before .before .if3 .left), le-leb _ _ (c .before .before .before .before .if2 .left), eq-eqb _ _ (c .before .before .before .before .before .before .if1 .left))
+returns-4 c = let past = c .before .before .before .before .before .before in simp (lt-leb _ _ (c .if4 .taken), le-leb _ _ (c .before .before .if3 .left), le-leb _ _ (c .before .before .before .before .if2 .left), eq-eqb _ _ (past .if1 .left))
 
 returns-5 : tie.Need-returns-5
 unfolding isKnown
-returns-5 c = simp (lt-leb _ _ (c .if5 .taken), le-leb _ _ (c .before .before .if4 .left), le-leb _ _ (c .before .before .before .before .if3 .left), le-leb _ _ (c .before .before .before .before .before .before .if2 .left), eq-eqb _ _ (c .before .before .before .before .before .before .before .before .if1 .left))
+returns-5 c = let past = c .before .before .before .before .before .before in simp (lt-leb _ _ (c .if5 .taken), le-leb _ _ (c .before .before .if4 .left), le-leb _ _ (c .before .before .before .before .if3 .left), le-leb _ _ (past .if2 .left), eq-eqb _ _ (past .before .before .if1 .left))
 
 returns-6 : tie.Need-returns-6
 unfolding isKnown
-returns-6 c = simp (lt-leb _ _ (c .if6 .taken), le-leb _ _ (c .before .before .if5 .left), le-leb _ _ (c .before .before .before .before .if4 .left), le-leb _ _ (c .before .before .before .before .before .before .if3 .left), le-leb _ _ (c .before .before .before .before .before .before .before .before .if2 .left), eq-eqb _ _ (c .before .before .before .before .before .before .before .before .before .before .if1 .left))
+returns-6 c = let past = c .before .before .before .before .before .before in simp (lt-leb _ _ (c .if6 .taken), le-leb _ _ (c .before .before .if5 .left), le-leb _ _ (c .before .before .before .before .if4 .left), le-leb _ _ (past .if3 .left), le-leb _ _ (past .before .before .if2 .left), eq-eqb _ _ (past .before .before .before .before .if1 .left))
 
 returns-7 : tie.Need-returns-7
 unfolding isKnown
-returns-7 c = rw (le-leb _ _ (c .before .if6 .left), le-leb _ _ (c .before .before .before .if5 .left), le-leb _ _ (c .before .before .before .before .before .if4 .left), le-leb _ _ (c .before .before .before .before .before .before .before .if3 .left), le-leb _ _ (c .before .before .before .before .before .before .before .before .before .if2 .left), eq-eqb _ _ (c .before .before .before .before .before .before .before .before .before .before .before .if1 .left))
+returns-7 c = let past = c .before .before .before .before .before .before in rw (le-leb _ _ (c .before .if6 .left), le-leb _ _ (c .before .before .before .if5 .left), le-leb _ _ (c .before .before .before .before .before .if4 .left), le-leb _ _ (past .before .if3 .left), le-leb _ _ (past .before .before .before .if2 .left), eq-eqb _ _ (past .before .before .before .before .before .if1 .left))
 
 pub is-known-spec : {M : Type 1} → statement M
 is-known-spec =

@@ -1,7 +1,7 @@
 -- `is_middle_zero`.
 use borrow.Author.Needs.{needs}
 use mathlib.Core.Path.{_≡_}
-use Rattle.stored.specs.Taken.{middleZero}
+use Rattle.stored.specs.Unused.{middleZero}
 use Rattle.stored.proofs.judging.is_middle_zero.Statement.{statement}
 use Rattle.stored.proofs.judging.is_middle_zero.Tie as tie
 

@@ -20,11 +20,11 @@ cast-t21 : tie.Need-cast-t21
 cast-t21 c = let k = known _ (c .before .before .before .before .before .pre) in omega (arith, k .number)
 
 cast-body-from-2 : tie.Need-cast-body-from-2
-cast-body-from-2 c = let k = known _ (c .before .before .before .before .before .before .before .pre) in omega (arith, k .flag)
+cast-body-from-2 c = let past = c .before .before .before .before .before .before in let k = known _ (past .before .pre) in omega (arith, k .flag)
 
 returns : tie.Need-returns
 unfolding runOf countsAt
-returns c = simp (c .body-from .ensures, c .before .before .triples-in .ensures, c .before .before .before .before .before .before .before .counts-at .ensures)
+returns c = let past = c .before .before .before .before .before .before in simp (c .body-from .ensures, c .before .before .triples-in .ensures, past .before .counts-at .ensures)
 
 pub run-of-spec : {M : Type 1} → statement M
 run-of-spec = tie.close (tie.spec (λ c κs. search needs) (λ c. search needs) cast-body-from (λ c. search needs) cast-t13 (λ c. search needs) cast-t17 (λ c. search needs) cast-t21 (λ c. search needs) (λ c κs. search needs) (λ c. search needs) cast-body-from-2 (λ c κs. search needs) returns)
