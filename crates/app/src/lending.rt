@@ -9,7 +9,7 @@ use crate::SteppedReply;
 use crate::TriedReply;
 use crate::replies;
 use fastpath::Look;
-use run::Plan;
+use plan::Plan;
 use run::Run;
 use run::Track;
 use run::Trial;

@@ -1,15 +1,15 @@
 // SPDX-License-Identifier: MIT OR Apache-2.0
 // What an app links: the whole run and the samples between, for C and for Rust. Thin over the proved functions, and proved themselves.
 // No function here depends on its caller's care beyond what a pointer needs; include/gauss_jackson.h says that, and the layouts.
+use plan::Settings;
 use run::Mark;
 use run::Run;
-use run::Settings;
 use run::Track;
 use run::Trial;
 use triple::Triple;
 ghost use mathlib.Core.Path.{_≡_};
 ghost use mathlib.Core.List.{[], _∷_};
-ghost use Rattle.run.specs.Plan.{defaultSettings};
+ghost use Rattle.plan.specs.Plan.{defaultSettings};
 ghost use Rattle.gauss_jackson.specs.Answers.{started, answered, openQuestion};
 ghost use Rattle.refusals.specs.Numbers.{numberTold};
 ghost use Rattle.stored.specs.Stored.{storing, storedIn, loaded};

@@ -8,9 +8,9 @@ use crate::Reply;
 use gauss_jackson::Outcome;
 use gauss_jackson::Question;
 use gauss_jackson::Solution;
+use plan::Settings;
 use refusals::Refusal;
 use run::Run;
-use run::Settings;
 use triple::Triple;
 
 pub fn asks_for(question: Question) -> Reply

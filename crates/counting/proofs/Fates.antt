@@ -8,7 +8,7 @@ use mathlib.Core.Bool.{Bool, true, false, not, cond}
 use lib.Dec.{T, ltb, ltb→lt, nltb→le}
 use lib.Ieee.{Float, binary64, add}
 use borrow.Author.Tests.{le-ltb}
-use Rattle.run.specs.declared.Plan.{Plan}
+use Rattle.plan.specs.declared.Plan.{Plan}
 use Rattle.run.specs.Formulas.{isTail}
 use Rattle.whole.proofs.Along.{Along, move-along}
 use Rattle.counting.specs.Clockwork.{Fate, arrives, tails, runs-out, fateFrom, fateOf}

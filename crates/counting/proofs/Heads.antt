@@ -8,8 +8,8 @@ use lib.Ieee.{Float, binary64, add}
 use borrow.Author.Tests.{le-ltb, ne-eqb}
 use Rattle.triple.specs.declared.Sample.{Sample}
 use Rattle.startup.specs.Points.{timeAt}
-use Rattle.run.specs.declared.Plan.{Plan}
-use Rattle.run.specs.Limits.{wantsSamples}
+use Rattle.plan.specs.declared.Plan.{Plan}
+use Rattle.plan.specs.Limits.{wantsSamples}
 use Rattle.run.specs.Formulas.{isDue, isTail}
 use Rattle.rules.specs.Rules.{Course, stores}
 use Rattle.rules.specs.Asked.{clock}

@@ -11,10 +11,10 @@ use lib.Signed.{leZ}
 use lib.Ieee.{Float}
 use borrow.Author.Tests.{eq-eqb, ne-eqb}
 use Rattle.triple.specs.declared.Triple.{Triple}
-use Rattle.run.specs.declared.Settings.{Settings}
-use Rattle.run.specs.declared.Plan.{Plan}
-use Rattle.run.specs.Limits.{wantsSamples}
-use Rattle.run.specs.Plan.{planOf}
+use Rattle.plan.specs.declared.Settings.{Settings}
+use Rattle.plan.specs.declared.Plan.{Plan}
+use Rattle.plan.specs.Limits.{wantsSamples}
+use Rattle.plan.specs.Plan.{planOf}
 use Rattle.rules.specs.Rules.{integrate}
 use Rattle.whole.specs.Whole.{IsWhole}
 use Rattle.whole.proofs.Integers.{plus, less}

@@ -6,8 +6,8 @@ use mathlib.Core.List.{List, []}
 use lib.IntN.{ℤ, natAbs}
 use lib.Ieee.{Float}
 use Rattle.triple.specs.declared.Triple.{Triple}
-use Rattle.run.specs.declared.Settings.{Settings}
-use Rattle.run.specs.Plan.{planOf}
+use Rattle.plan.specs.declared.Settings.{Settings}
+use Rattle.plan.specs.Plan.{planOf}
 use Rattle.rules.specs.Rules.{integrate}
 use Rattle.gauss_jackson.specs.Answers.{started}
 use Rattle.rules.specs.Walk.{Call, Stop, settle, walk}

@@ -9,8 +9,8 @@ use lib.IntN.{pos}
 use lib.Ieee.{Float, binary64, add, sub, div, lt, ofInt}
 use Rattle.triple.specs.Size.{absolute}
 use Rattle.startup.specs.Points.{offset, timeAt}
-use Rattle.run.specs.declared.Plan.{Plan}
-use Rattle.run.specs.Plan.{directionOf, isTooNear}
+use Rattle.plan.specs.declared.Plan.{Plan}
+use Rattle.plan.specs.Plan.{directionOf, isTooNear}
 use Rattle.run.specs.Formulas.{leftAt, isDue, isTail}
 use Rattle.rules.specs.Asked.{clock}
 use Rattle.whole.proofs.Exact.{Is, move, sub-whole, lt-whole, nought-whole}

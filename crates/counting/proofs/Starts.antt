@@ -5,13 +5,13 @@ use mathlib.Core.List.{[]}
 use lib.Ieee.{Float}
 use Rattle.triple.specs.declared.Triple.{Triple}
 use Rattle.refusals.specs.declared.Refusal.the-variants.{StepNotFinite, Setting}
-use Rattle.run.specs.declared.Settings.{Settings}
-use Rattle.run.specs.Plan.{planOf, isTooNear}
-use Rattle.run.specs.Limits.{areWithinLimits}
-use Rattle.gauss_jackson.specs.declared.Verdict.{Verdict}
-use Rattle.gauss_jackson.specs.declared.Verdict.the-variants.{Fine, Refuse}
-use Rattle.gauss_jackson.specs.Answers.{verdictOn}
-use Rattle.gauss_jackson.proofs.Verdicts.{verdict-is}
+use Rattle.plan.specs.declared.Settings.{Settings}
+use Rattle.plan.specs.Plan.{planOf, isTooNear}
+use Rattle.plan.specs.Limits.{areWithinLimits}
+use Rattle.plan.specs.declared.Verdict.{Verdict}
+use Rattle.plan.specs.declared.Verdict.the-variants.{Fine, Refuse}
+use Rattle.plan.specs.Verdict.{verdictOn}
+use Rattle.plan.proofs.Verdicts.{verdict-is}
 use Rattle.rules.specs.Rules.{integrate}
 use Rattle.rules.specs.Walk.{refused, Stop, settle, beginBy, begin}
 

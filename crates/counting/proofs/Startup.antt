@@ -17,7 +17,7 @@ use Rattle.startup.specs.declared.Places.{Places}
 use Rattle.startup.specs.declared.Widest.{Widest}
 use Rattle.startup.specs.Points.{pointAt, placed, firstPlaces}
 use Rattle.startup.specs.Passes.{passPlaces, widened, calmAt, isSettled}
-use Rattle.run.specs.declared.Plan.{Plan}
+use Rattle.plan.specs.declared.Plan.{Plan}
 use Rattle.rules.specs.Rules.{Course, rk4, forward, backward, others, survey, renew, passes, integrate, fly}
 use Rattle.counting.specs.Paths.{Claims, Always}
 use Rattle.counting.specs.Clockwork.{fewestStartups, NeverStops}

@@ -6,8 +6,8 @@ use native.Mathlib.Omega.{arith}
 use mathlib.Core.Bool.{Bool, cond}
 use lib.Ieee.{Float}
 use borrow.Author.Tests.{lt-ltb, le-ltb}
-use Rattle.run.specs.declared.Plan.{Plan}
-use Rattle.run.specs.Limits.{wantsSamples}
+use Rattle.plan.specs.declared.Plan.{Plan}
+use Rattle.plan.specs.Limits.{wantsSamples}
 use Rattle.counting.specs.Clockwork.{Fate, arrives, tails, stepsOf, plainSteps, tailAnswers, least, most, fewestStartups, NeverStops, Counted}
 use Rattle.counting.specs.Counting.{stepsFor, tailFor, plainFor, tailAnswersFor, leastFor, mostFor, fewestFor, leastBefore, mostBefore}
 

@@ -8,8 +8,8 @@ use lib.Signed.{leZ}
 use lib.Ieee.{Float, binary64, neg, le, ofInt}
 use borrow.Author.Tests.{leb-true, leb-false}
 use Rattle.triple.specs.Size.{absolute}
-use Rattle.run.specs.declared.Settings.{Settings}
-use Rattle.run.specs.Plan.{directionOf, planOf}
+use Rattle.plan.specs.declared.Settings.{Settings}
+use Rattle.plan.specs.Plan.{directionOf, planOf}
 use Rattle.whole.specs.Whole.{IsWhole}
 use Rattle.whole.proofs.Exact.{Is, move, neg-whole, one-whole}
 use Rattle.whole.proofs.Integers.{plus, less, Holds, Within, sum-parts, neg-parts, le-parts, le-int, abs-int, read, write}

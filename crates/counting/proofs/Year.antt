@@ -2,7 +2,7 @@
 use mathlib.Core.Path.{refl}
 use mathlib.Core.Logic.{inl}
 use lib.Dec.{lit≤}
-use Rattle.run.specs.Limits.{areWithinLimits, wantsSamples}
+use Rattle.plan.specs.Limits.{areWithinLimits, wantsSamples}
 use Rattle.counting.specs.Counting.{spanOf, stepsFor, tailFor, plainFor, tailAnswersFor, mostFor, mostBefore}
 use Rattle.counting.specs.Year.{TheYear}
 

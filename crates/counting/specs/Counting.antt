@@ -8,9 +8,9 @@ use lib.IntN.{ℤ, pos, natAbs, _+ℤ_, _-ℤ_}
 use lib.Signed.{leZ}
 use lib.Ieee.{Float}
 use Rattle.triple.specs.declared.Triple.{Triple}
-use Rattle.run.specs.declared.Settings.{Settings}
-use Rattle.run.specs.Plan.{planOf, isTooNear}
-use Rattle.run.specs.Limits.{areWithinLimits, wantsSamples}
+use Rattle.plan.specs.declared.Settings.{Settings}
+use Rattle.plan.specs.Plan.{planOf, isTooNear}
+use Rattle.plan.specs.Limits.{areWithinLimits, wantsSamples}
 use Rattle.rules.specs.Rules.{integrate}
 use Rattle.whole.specs.Whole.{IsWhole}
 use Rattle.counting.specs.Paths.{Claims, Always}

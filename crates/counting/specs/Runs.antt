@@ -14,8 +14,8 @@ use Rattle.triple.specs.declared.Sample.{Sample}
 use Rattle.triple.specs.Sampled.{sampleWidth}
 use Rattle.refusals.specs.Numbers.{numberOf}
 use Rattle.refusals.specs.declared.Refusal.the-variants.{NoQuestion, NotThatQuestion}
-use Rattle.run.specs.declared.Settings.{Settings}
-use Rattle.run.specs.Limits.{wantsSamples}
+use Rattle.plan.specs.declared.Settings.{Settings}
+use Rattle.plan.specs.Limits.{wantsSamples}
 use Rattle.run.specs.Samples.{putAll}
 use Rattle.gauss_jackson.specs.Answers.{started}
 use Rattle.rules.specs.Walk.{Said, question, finished, refused, told, Call, Result}

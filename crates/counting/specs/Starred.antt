@@ -11,9 +11,9 @@ use Rattle.triple.specs.declared.Sample.{Sample}
 use Rattle.triple.specs.Arithmetic.{nought}
 use Rattle.quintic.specs.declared.Between.{Between}
 use Rattle.quintic.specs.Quintic.{quinticHermite}
-use Rattle.run.specs.declared.Settings.{Settings}
-use Rattle.run.specs.Plan.{planOf}
-use Rattle.run.specs.Limits.{maxSteps, areWithinLimits}
+use Rattle.plan.specs.declared.Settings.{Settings}
+use Rattle.plan.specs.Plan.{planOf}
+use Rattle.plan.specs.Limits.{maxSteps, areWithinLimits}
 use Rattle.rules.specs.Rules.{integrate}
 use Rattle.rules.specs.Walk.{refused, settle, begin}
 use Rattle.counting.specs.Paths.{Claims, Always}

@@ -5,7 +5,7 @@ use Prim.Native.Nat.{ℕ}
 use lib.IntN.{ℤ, pos}
 use lib.Ieee.{Float, binary64, ofInt}
 use Rattle.triple.specs.Arithmetic.{nought}
-use Rattle.run.specs.declared.Settings.{Settings}
+use Rattle.plan.specs.declared.Settings.{Settings}
 use Rattle.counting.specs.Counting.{spanOf, stepsFor, mostBefore, Bounds}
 
 abbrev pub yearSettings : Settings

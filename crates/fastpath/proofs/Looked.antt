@@ -5,7 +5,7 @@ use mathlib.Core.Bool.{true, false}
 use lib.Dec.{eqb}
 use Rattle.triple.specs.declared.Triple.{Triple}
 use Rattle.triple.specs.declared.State.{State}
-use Rattle.run.specs.declared.Plan.{Plan}
+use Rattle.plan.specs.declared.Plan.{Plan}
 use Rattle.run.specs.declared.Mark.{Mark}
 use Rattle.run.specs.declared.Count.{Count}
 use Rattle.run.specs.declared.Track.{Track}

@@ -9,7 +9,7 @@ use lib.ListN.{length}
 use lib.Ieee.{Float, binary64, add}
 use Rattle.triple.specs.declared.Triple.{Triple}
 use Rattle.triple.specs.declared.State.{State}
-use Rattle.run.specs.declared.Plan.{Plan}
+use Rattle.plan.specs.declared.Plan.{Plan}
 use Rattle.run.specs.declared.Count.{Count}
 use Rattle.run.specs.declared.Track.{Track}
 use Rattle.run.specs.declared.Run.{Run}

@@ -3,11 +3,11 @@
 // which is lent is neither copied out nor put back whole. `look_at` says whether an answer goes this way; then `ask_again` or `make_step`
 // gives what changes. The theorems of `proofs/SameAnswer.antt` say that this is what `gauss_jackson::answer` does.
 use gauss_jackson::Question;
+use plan::Plan;
+use plan::limits;
 use run::Mark;
-use run::Plan;
 use run::Track;
 use run::Trial;
-use run::limits;
 use run::samples;
 use run::sound;
 use triple::State;

@@ -13,24 +13,25 @@ use Rattle.refusals.specs.declared.Refusal.{Refusal}
 use Rattle.refusals.specs.declared.Refusal.the-variants.{StepNotFinite, MaxStepsExceeded, Setting, SampleRoom, NoQuestion, NotThatQuestion}
 use Rattle.sums.specs.Sums.{correctedState}
 use Rattle.startup.specs.Passes.{isSettled}
-use Rattle.run.specs.declared.Settings.{Settings}
-use Rattle.run.specs.declared.Plan.{Plan}
+use Rattle.plan.specs.declared.Settings.{Settings}
+use Rattle.plan.specs.declared.Plan.{Plan}
 use Rattle.run.specs.declared.Count.{Count}
 use Rattle.run.specs.declared.Body.{Body}
 use Rattle.run.specs.declared.Run.{Run}
 use Rattle.gauss_jackson.specs.declared.Question.{Question}
 use Rattle.gauss_jackson.specs.declared.Solution.{Solution}
 use Rattle.gauss_jackson.specs.declared.Answered.{Answered}
-use Rattle.gauss_jackson.specs.declared.Verdict.{Verdict}
-use Rattle.gauss_jackson.specs.declared.Verdict.the-variants.{Fine, Refuse}
+use Rattle.plan.specs.declared.Verdict.{Verdict}
+use Rattle.plan.specs.declared.Verdict.the-variants.{Fine, Refuse}
 use Rattle.gauss_jackson.specs.declared.Outcome.{Outcome}
 use Rattle.gauss_jackson.specs.declared.Outcome.the-variants.{Ask, Done, Refused}
 use Rattle.run.specs.declared.waiting.Stage.{Stage}
 use Rattle.run.specs.declared.waiting.Stage.the-variants.{First, Second, Third, Fourth}
 use Rattle.run.specs.declared.waiting.Waiting.{Waiting}
 use Rattle.run.specs.declared.waiting.Waiting.the-variants.{Epoch, Forward, Backward, Survey, Pass, Step, Tail, TailSample, Ended, Unknown}
-use Rattle.run.specs.Plan.{planOf, isTooNear}
-use Rattle.run.specs.Limits.{numbering, areWithinLimits, wantsSamples}
+use Rattle.plan.specs.Plan.{planOf, isTooNear}
+use Rattle.plan.specs.Limits.{areWithinLimits, wantsSamples}
+use Rattle.run.specs.Limits.{numbering}
 use Rattle.run.specs.Formulas.{isDue, isTail, isAtRest}
 use Rattle.run.specs.Waiting.{isLast, stageAfter, markAt, waitsAt, nextPoint}
 use Rattle.run.specs.Questions.{questionAt}

@@ -2,18 +2,16 @@
 // The integration turned inside out: `start` gives a run with its first question, and each accepted `answer` gives the next
 // question, or the finished state, or a refusal. The run is plain data, goes in by value and comes back by value.
 // Every function that a caller sees is total: document 01 names the answer to anything at all.
+pub use plan::Settings;
+use plan::Verdict;
 use refusals::Refusal;
-use run::Plan;
 pub use run::Run;
-pub use run::Settings;
-use run::formulas;
-use run::limits;
 use run::sound;
 use run::waiting;
 use triple::Triple;
 ghost use mathlib.Core.Path.{_≡_};
-ghost use Rattle.run.specs.Plan.{defaultSettings};
-ghost use Rattle.gauss_jackson.specs.Answers.{verdictOn, started, answered, openQuestion};
+ghost use Rattle.plan.specs.Plan.{defaultSettings};
+ghost use Rattle.gauss_jackson.specs.Answers.{started, answered, openQuestion};
 
 mod advance;
 mod outcomes;
@@ -45,12 +43,6 @@ pub enum Outcome {
     Refused(Refusal),
 }
 
-// What is said of a start.
-pub enum Verdict {
-    Fine,
-    Refuse(Refusal),
-}
-
 // What a call gives: the run to go on with, and the outcome.
 pub struct Answered {
     pub run: Run,
@@ -72,25 +64,12 @@ pub fn default_settings() -> Settings
     }
 }
 
-// Whether a start with this plan is refused: 5, then 1.
-fn verdict_on(plan: Plan) -> Verdict
-    ensures { λ v. ⌜ v ≡ verdictOn plan ⌝ }
-{
-    if !limits::are_within_limits(plan.settings) {
-        return Verdict::Refuse(Refusal::Setting);
-    }
-    if formulas::is_too_near(plan) {
-        return Verdict::Refuse(Refusal::StepNotFinite);
-    }
-    Verdict::Fine
-}
-
 // A start: a run with its first question, or a refusal with a run that is ended.
 pub fn start(settings: Settings, t0: f64, tf: f64, r0: Triple, v0: Triple) -> Answered
     ensures { λ x. ⌜ x ≡ started settings t0 tf r0 v0 ⌝ }
 {
-    let plan = formulas::plan_of(settings, t0, tf);
-    let verdict = verdict_on(plan);
+    let plan = plan::plan_of(settings, t0, tf);
+    let verdict = plan::verdict_on(plan);
     match verdict {
         Verdict::Fine => outcomes::begin(plan, r0, v0),
         Verdict::Refuse(refusal) => outcomes::end(Outcome::Refused(refusal)),

@@ -2,7 +2,8 @@
 // What an accepted answer leads to at each waiting point, the one plain way. `count` counts the answers up to this one.
 ghost use mathlib.Core.Path.{_≡_};
 ghost use Prim.Native.Nat.{_<_, _≤_};
-ghost use Rattle.run.specs.Limits.{maxPasses, ample};
+ghost use Rattle.plan.specs.Limits.{maxPasses};
+ghost use Rattle.run.specs.Limits.{ample};
 ghost use Rattle.run.specs.Moves.{kept};
 ghost use Rattle.run.specs.Ready.{Ready};
 ghost use Rattle.gauss_jackson.specs.Answers.{asking, onward, startupEnded, stepEnded, passesOn, passEnded, rk4Taken, forwardEnded, backwardEnded, tailEnded, surveyTaken, passTaken, stepTaken, lastTaken, answeredAt};
@@ -10,11 +11,11 @@ use crate::Answered;
 use crate::Outcome;
 use crate::advance;
 use crate::outcomes;
+use plan::limits;
 use refusals::Refusal;
 use run::Body;
 use run::Count;
 use run::formulas;
-use run::limits;
 use run::moves;
 use run::samples;
 use run::waiting;

@@ -1,8 +1,8 @@
 // SPDX-License-Identifier: MIT OR Apache-2.0
 // 01: "a run lent by the caller and moved on where it stands". Each function calls the one by value and stores the run back.
 use gauss_jackson::Outcome;
+use plan::Settings;
 use run::Run;
-use run::Settings;
 use triple::Triple;
 ghost use mathlib.Core.Path.{_≡_};
 ghost use Rattle.gauss_jackson.specs.Answers.{started, answered};

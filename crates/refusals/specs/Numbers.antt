@@ -1,7 +1,7 @@
 -- 01, "Numbered answers", and 02: the number of each refusal.
 use Prim.Native.Nat.{ℕ}
 use Rattle.refusals.specs.declared.Refusal.{Refusal}
-use Rattle.refusals.specs.declared.Refusal.the-variants.{StepNotFinite, MaxStepsExceeded, NoDenseOutput, InterpOutOfBounds, Setting, SampleRoom, NoQuestion, NotThatQuestion, Shape, StoredShape, StoredContent}
+use Rattle.refusals.specs.declared.Refusal.the-variants.{StepNotFinite, MaxStepsExceeded, NoDenseOutput, InterpOutOfBounds, Setting, SampleRoom, NoQuestion, NotThatQuestion, Shape, StoredShape, StoredContent, BlankDate}
 use Rattle.refusals.specs.declared.Told.{Told}
 use Rattle.refusals.specs.declared.Told.the-variants.{Written, Refused}
 
@@ -19,6 +19,8 @@ numberOf Shape = 9
 numberOf StoredShape = 10
 -- and "11 for another form number, an unknown waiting point, a flag above 1, unused content that is not zero, or a run that 01's answer 7 calls made up"
 numberOf StoredContent = 11
+-- W-202: "12 for a start, end or step that is not finite"
+numberOf BlankDate = 12
 
 -- a refusal's number, and 0 where all is written
 abbrev pub numberTold : Told → ℕ

@@ -15,6 +15,7 @@ pub enum Refusal {
     Shape,
     StoredShape,
     StoredContent,
+    BlankDate,
 }
 
 // What a call tells that writes into a lent buffer.
@@ -39,6 +40,7 @@ pub fn number_of(refusal: Refusal) -> u8
         Refusal::Shape => 9,
         Refusal::StoredShape => 10,
         Refusal::StoredContent => 11,
+        Refusal::BlankDate => 12,
     }
 }
 

@@ -29,7 +29,7 @@ fn play_on(q: Question, run: Run, force: Force, whole: bool, samples: &mut [f64]
 
 // How many numbers a finished run has stored: ten a sample, one sample a step and one more.
 fn stored(case: Case, steps: u64, samples: &[f64]) -> usize {
-    if !run::limits::wants_samples(case.settings) {
+    if !plan::limits::wants_samples(case.settings) {
         return 0;
     }
     if steps < (samples.len() / 10) as u64 {

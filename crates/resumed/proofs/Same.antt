@@ -13,7 +13,7 @@ use Rattle.sums.specs.declared.Sums.{Sums}
 use Rattle.sums.specs.declared.Fixed.{Fixed}
 use Rattle.sums.specs.Sums.{correctedState}
 use Rattle.startup.specs.Points.{pointAt, placed}
-use Rattle.run.specs.declared.Plan.{Plan}
+use Rattle.plan.specs.declared.Plan.{Plan}
 use Rattle.run.specs.declared.Body.{Body}
 use Rattle.run.specs.declared.Run.{Run}
 use Rattle.run.specs.declared.waiting.Stage.{Stage}

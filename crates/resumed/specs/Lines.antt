@@ -11,7 +11,7 @@ use Rattle.refusals.specs.Numbers.{numberOf}
 use Rattle.refusals.specs.declared.Refusal.the-variants.{StoredShape}
 use Rattle.refusals.specs.declared.Told.{Told}
 use Rattle.refusals.specs.declared.Told.the-variants.{Written, Refused}
-use Rattle.run.specs.declared.Settings.{Settings}
+use Rattle.plan.specs.declared.Settings.{Settings}
 use Rattle.run.specs.declared.Run.{Run}
 use Rattle.gauss_jackson.specs.declared.Answered.{Answered}
 use Rattle.gauss_jackson.specs.Answers.{answered, started}

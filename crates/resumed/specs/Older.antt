@@ -7,7 +7,7 @@ use lib.IntN.{ℤ, natAbs}
 use lib.ListN.{getD}
 use lib.Ieee.{Float}
 use Rattle.triple.specs.declared.Triple.{Triple}
-use Rattle.run.specs.declared.Settings.{Settings}
+use Rattle.plan.specs.declared.Settings.{Settings}
 use Rattle.gauss_jackson.specs.Answers.{started}
 use Rattle.rules.specs.Walk.{Call, Result, Line, open-at, over, called, walk, begin}
 use Rattle.rules.specs.Follows as plain

@@ -2,7 +2,7 @@
 use lib.Dec.{T}
 use lib.Ieee.{Float, binary64, fits}
 use Rattle.triple.specs.declared.Triple.{Triple}
-use Rattle.run.specs.declared.Settings.{Settings}
+use Rattle.plan.specs.declared.Settings.{Settings}
 
 -- an f64
 abbrev pub Double : Float → Type 0

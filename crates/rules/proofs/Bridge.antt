@@ -12,13 +12,14 @@ use borrow.Author.Tests.{ltb-true, ltb-false}
 use Rattle.triple.specs.declared.Sample.{Sample}
 use Rattle.refusals.specs.declared.Refusal.the-variants.{MaxStepsExceeded, SampleRoom}
 use Rattle.startup.specs.Passes.{isSettled}
-use Rattle.run.specs.declared.Plan.{Plan}
+use Rattle.plan.specs.declared.Plan.{Plan}
 use Rattle.run.specs.declared.Count.{Count}
 use Rattle.run.specs.declared.Body.{Body}
 use Rattle.run.specs.declared.waiting.Stage.the-variants.{First}
 use Rattle.run.specs.declared.waiting.Waiting.{Waiting}
 use Rattle.run.specs.declared.waiting.Waiting.the-variants.{Pass, Step, Tail}
-use Rattle.run.specs.Limits.{numbering, areWithinLimits, wantsSamples}
+use Rattle.plan.specs.Limits.{areWithinLimits, wantsSamples}
+use Rattle.run.specs.Limits.{numbering}
 use Rattle.run.specs.Formulas.{isDue, isTail, startTrack}
 use Rattle.run.specs.Waiting.{stageFrom, waitingAt, waitsAt}
 use Rattle.run.specs.Moves.{freshBody, passBegun, passMade, launched, predicted}

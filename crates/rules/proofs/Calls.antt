@@ -18,7 +18,8 @@ use Rattle.run.specs.declared.waiting.Stage.{Stage}
 use Rattle.run.specs.declared.waiting.Stage.the-variants.{First, Second, Third, Fourth}
 use Rattle.run.specs.declared.waiting.Waiting.{Waiting}
 use Rattle.run.specs.declared.waiting.Waiting.the-variants.{Epoch, Forward, Backward, Survey, Pass, Step, Tail, TailSample, Ended, Unknown}
-use Rattle.run.specs.Limits.{numbering, areWithinLimits, wantsSamples}
+use Rattle.plan.specs.Limits.{areWithinLimits, wantsSamples}
+use Rattle.run.specs.Limits.{numbering}
 use Rattle.run.specs.Formulas.{isAtRest, stepPoint, finalPoint}
 use Rattle.run.specs.Waiting.{isLast, stageAfter, waitsAt, nextPoint}
 use Rattle.run.specs.Questions.{endPoint, lastPoint, questionAt}

@@ -11,19 +11,20 @@ use Rattle.triple.specs.Nine.{at, nineZeros}
 use Rattle.refusals.specs.declared.Refusal.the-variants.{StepNotFinite, Setting}
 use Rattle.startup.specs.declared.Places.{Places}
 use Rattle.startup.specs.Points.{firstPlaces}
-use Rattle.run.specs.declared.Settings.{Settings}
-use Rattle.run.specs.declared.Plan.{Plan}
+use Rattle.plan.specs.declared.Settings.{Settings}
+use Rattle.plan.specs.declared.Plan.{Plan}
 use Rattle.run.specs.declared.Run.{Run}
 use Rattle.run.specs.declared.waiting.Waiting.the-variants.{Epoch}
-use Rattle.run.specs.Plan.{planOf}
-use Rattle.run.specs.Limits.{areWithinLimits}
+use Rattle.plan.specs.Plan.{planOf}
+use Rattle.plan.specs.Limits.{areWithinLimits}
 use Rattle.run.specs.Questions.{epochPoint, questionAt}
 use Rattle.run.specs.Moves.{freshBody, surveyed}
 use Rattle.gauss_jackson.specs.declared.Answered.{Answered}
 use Rattle.gauss_jackson.specs.declared.Outcome.the-variants.{Refused}
-use Rattle.gauss_jackson.specs.declared.Verdict.{Verdict}
-use Rattle.gauss_jackson.specs.Answers.{asking, answered, verdictOn, startedBy, started}
-use Rattle.gauss_jackson.proofs.Verdicts.{Case, over-limit, too-near, fine, split}
+use Rattle.plan.specs.declared.Verdict.{Verdict}
+use Rattle.plan.specs.Verdict.{verdictOn}
+use Rattle.gauss_jackson.specs.Answers.{asking, answered, startedBy, started}
+use Rattle.plan.proofs.Verdicts.{Case, over-limit, too-near, fine, split}
 use Rattle.rules.specs.Rules.{Course, asks, forward, backward, others, survey, passes, fly, integrate}
 use Rattle.rules.specs.Walk.{told, Call, Result, Stop, settle, walk, beginBy, begin}
 use Rattle.rules.specs.Follows.{heard, played, FollowsTheRules}

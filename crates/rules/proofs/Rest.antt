@@ -15,7 +15,7 @@ use Rattle.run.specs.declared.waiting.Stage.{Stage}
 use Rattle.run.specs.declared.waiting.Stage.the-variants.{First, Second, Third, Fourth}
 use Rattle.run.specs.declared.waiting.Waiting.{Waiting}
 use Rattle.run.specs.declared.waiting.Waiting.the-variants.{Epoch, Forward, Backward, Survey, Pass, Step, Tail, TailSample, Ended, Unknown}
-use Rattle.run.specs.Limits.{wantsSamples}
+use Rattle.plan.specs.Limits.{wantsSamples}
 use Rattle.run.specs.Formulas.{finalPoint}
 use Rattle.run.specs.Waiting.{waitsAt}
 use Rattle.run.specs.Questions.{questionAt}

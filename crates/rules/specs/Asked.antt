@@ -7,7 +7,7 @@ use lib.Ieee.{Float, binary64, neg, add, sub}
 use Rattle.triple.specs.declared.Triple.{Triple}
 use Rattle.rk4.specs.Rk4.{half}
 use Rattle.startup.specs.Points.{timeAt}
-use Rattle.run.specs.declared.Plan.{Plan}
+use Rattle.plan.specs.declared.Plan.{Plan}
 use Rattle.rules.specs.Rules.{Course, asks, stores, ends, exceeds, integrate}
 
 -- "Point i, 0 to 8, has time t0 + (i-4)·h."

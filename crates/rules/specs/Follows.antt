@@ -8,7 +8,7 @@ use lib.Dec.{eqb}
 use lib.Ieee.{Float}
 use Rattle.triple.specs.declared.Triple.{Triple}
 use Rattle.triple.specs.declared.Point.{Point}
-use Rattle.run.specs.declared.Settings.{Settings}
+use Rattle.plan.specs.declared.Settings.{Settings}
 use Rattle.run.specs.declared.Run.{Run}
 use Rattle.run.specs.Sound.{isSound}
 use Rattle.gauss_jackson.specs.declared.Question.{Question}

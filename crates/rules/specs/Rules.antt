@@ -18,9 +18,9 @@ use Rattle.startup.specs.declared.Places.{Places}
 use Rattle.startup.specs.declared.Widest.{Widest}
 use Rattle.startup.specs.Points.{pointAt, firstPlaces, placed}
 use Rattle.startup.specs.Passes.{passPlaces, widened, calmAt, isSettled}
-use Rattle.run.specs.declared.Plan.{Plan}
+use Rattle.plan.specs.declared.Plan.{Plan}
 use Rattle.run.specs.declared.Track.{Track}
-use Rattle.run.specs.Limits.{wantsSamples}
+use Rattle.plan.specs.Limits.{wantsSamples}
 use Rattle.run.specs.Formulas.{leftAt, isDue, isTail, isAtRest, startTrack, trackOn, stepPoint, tailFrom, finalPoint}
 use Rattle.run.specs.Samples.{startSamples, stepSample, lastSample}
 

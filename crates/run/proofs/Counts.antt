@@ -7,7 +7,7 @@ use native.Mathlib.Omega.{arith}
 use mathlib.Core.Bool.{Bool, true, false, not, _&&_, cond}
 use lib.Dec.{eqb, ltb, leb}
 use borrow.Author.Tests.{leb-true, ltb-true, ltb-false, eqb-true, eqb-false, le-leb, lt-ltb, le-ltb, eq-eqb, ne-eqb}
-use Rattle.run.specs.declared.Settings.{Settings}
+use Rattle.plan.specs.declared.Settings.{Settings}
 use Rattle.run.specs.declared.Count.{Count}
 use Rattle.run.specs.declared.Body.{Body}
 use Rattle.run.specs.declared.Run.{Run}
@@ -15,7 +15,8 @@ use Rattle.run.specs.declared.waiting.Stage.{Stage}
 use Rattle.run.specs.declared.waiting.Stage.the-variants.{First, Second, Third, Fourth}
 use Rattle.run.specs.declared.waiting.Waiting.{Waiting}
 use Rattle.run.specs.declared.waiting.Waiting.the-variants.{Epoch, Forward, Backward, Survey, Pass, Step, Tail, TailSample, Ended, Unknown}
-use Rattle.run.specs.Limits.{maxPasses, maxSteps, numbering, ample, areWithinLimits, wantsSamples}
+use Rattle.plan.specs.Limits.{maxPasses, maxSteps, areWithinLimits, wantsSamples}
+use Rattle.run.specs.Limits.{numbering, ample}
 use Rattle.run.specs.Waiting.{stageNumber, markAt, waitsAt}
 use Rattle.run.specs.Sound.{isIdle, forwardCounts, backwardCounts, rankOf, pointCounts, passCounts, isStartedUp, stepCounts, bodyCounts, hasCounts, isSound}
 use Rattle.run.specs.Ready.{Small, Ready}

@@ -14,7 +14,7 @@ use Rattle.run.specs.declared.waiting.Stage.{Stage}
 use Rattle.run.specs.declared.waiting.Stage.the-variants.{First, Second, Third, Fourth}
 use Rattle.run.specs.declared.waiting.Waiting.{Waiting}
 use Rattle.run.specs.declared.waiting.Waiting.the-variants.{Epoch, Forward, Backward, Survey, Pass, Step, Tail, TailSample}
-use Rattle.run.specs.Limits.{wantsSamples}
+use Rattle.plan.specs.Limits.{wantsSamples}
 use Rattle.run.specs.Waiting.{stageNumber, isLast, stageAfter, nextPoint}
 use Rattle.run.specs.Sound.{rankOf}
 use Rattle.run.specs.Formulas.{startTrack, trackOn}

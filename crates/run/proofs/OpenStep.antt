@@ -5,11 +5,12 @@ use native.Mathlib.Omega.{arith}
 use mathlib.Core.Bool.{true}
 use lib.Dec.{eqb, leb}
 use borrow.Author.Tests.{leb-true, eqb-true}
-use Rattle.run.specs.declared.Settings.{Settings}
+use Rattle.plan.specs.declared.Settings.{Settings}
 use Rattle.run.specs.declared.Mark.{Mark}
 use Rattle.run.specs.declared.Run.{Run}
 use Rattle.run.specs.declared.waiting.Waiting.the-variants.{Step}
-use Rattle.run.specs.Limits.{maxPasses, maxSteps, numbering, ample, areWithinLimits}
+use Rattle.plan.specs.Limits.{maxPasses, maxSteps, areWithinLimits}
+use Rattle.run.specs.Limits.{numbering, ample}
 use Rattle.run.specs.Waiting.{waitsAt, waitingAt}
 use Rattle.run.specs.Sound.{stepCounts, hasCounts, isSound, isOpenStep}
 use Rattle.run.proofs.Counts.{both, few, below, to-small}

@@ -12,7 +12,7 @@ use Rattle.triple.specs.declared.Triple.{Triple}
 use Rattle.triple.specs.declared.Sample.{Sample}
 use Rattle.triple.specs.Sampled.{sampleWidth}
 use Rattle.startup.specs.declared.Places.{Places}
-use Rattle.run.specs.declared.Plan.{Plan}
+use Rattle.plan.specs.declared.Plan.{Plan}
 use Rattle.run.specs.Samples.{hasRoom, put, putAll, gridSample, startSamples, keptSample, keptPoint, keptPoints}
 
 pub by-quotient : (n room : ℕ) → ltb n (room / sampleWidth) ≡ leb (sampleWidth * (n + 1)) room

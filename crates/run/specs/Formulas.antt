@@ -12,9 +12,9 @@ use Rattle.sums.specs.Sums.{onSums}
 use Rattle.startup.specs.declared.Places.{Places}
 use Rattle.startup.specs.Points.{timeAt, stateAt}
 use Rattle.startup.specs.Passes.{tiny, lastSums}
-use Rattle.run.specs.declared.Plan.{Plan}
+use Rattle.plan.specs.declared.Plan.{Plan}
 use Rattle.run.specs.declared.Track.{Track}
-use Rattle.run.specs.Plan.{decimal, directionOf}
+use Rattle.plan.specs.Plan.{decimal, directionOf}
 
 -- "let rem = tf - t"
 unfoldable pub leftAt : Plan → Float → Float

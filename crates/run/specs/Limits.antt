@@ -1,33 +1,10 @@
--- 01's limits, each in one place, and what a run's settings say of samples.
+-- How far a run's numbers go.
 use Prim.Native.Nat.{ℕ}
-use mathlib.Core.Bool.{Bool, _&&_}
-use lib.Dec.{eqb, leb}
-use Rattle.run.specs.declared.Settings.{Settings}
-
--- "max_startup_iters and max_corrector_iters 0 to 100"
-abbrev pub maxPasses : ℕ
-maxPasses = 100
-
--- "max_steps 0 to 1,000,000"
-abbrev pub maxSteps : ℕ
-maxSteps = 1_000_000
-
--- the flag `samples` is a number too: 0 or 1
-abbrev pub maxFlag : ℕ
-maxFlag = 1
 
 -- "after 65,535 the next question is numbered 0"
 abbrev pub numbering : ℕ
 numbering = 65536
 
--- above every count of a run within these limits: all that a private helper asks of a count which it adds to
+-- above every count of a run within the settings' limits: all that a private helper asks of a count which it adds to
 abbrev pub ample : ℕ
 ample = 1_000_000_000_000
-
--- 5: "a setting over its limit"
-unfoldable pub areWithinLimits : Settings → Bool
-areWithinLimits s =
-    leb (s .«max_startup_iters») maxPasses && leb (s .«max_corrector_iters») maxPasses && leb (s .samples) maxFlag && leb (s .«max_steps») maxSteps
-
-unfoldable pub wantsSamples : Settings → Bool
-wantsSamples s = eqb (s .samples) 1

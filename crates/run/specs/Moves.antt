@@ -14,7 +14,7 @@ use Rattle.startup.specs.Points.{firstPlaces, placed}
 use Rattle.startup.specs.Passes.{passPlaces, widened, calmAt}
 use Rattle.startup.specs.declared.Places.{Places}
 use Rattle.startup.specs.declared.Widest.{Widest}
-use Rattle.run.specs.declared.Plan.{Plan}
+use Rattle.plan.specs.declared.Plan.{Plan}
 use Rattle.run.specs.declared.Track.{Track}
 use Rattle.run.specs.declared.Trial.{Trial}
 use Rattle.run.specs.declared.Body.{Body}

@@ -1,11 +1,12 @@
 -- What the code needs to know of a sound run, so that no index runs out and no count wraps: the `requires` of private helpers. No promise to a
 -- caller cites this file.
 use Prim.Native.Nat.{ℕ, _≤_, _<_}
-use Rattle.run.specs.declared.Settings.{Settings}
+use Rattle.plan.specs.declared.Settings.{Settings}
 use Rattle.run.specs.declared.Body.{Body}
 use Rattle.run.specs.declared.waiting.Waiting.{Waiting}
 use Rattle.run.specs.declared.waiting.Waiting.the-variants.{Epoch, Forward, Backward, Survey, Pass, Step, Tail, TailSample, Ended, Unknown}
-use Rattle.run.specs.Limits.{maxPasses, maxSteps, ample}
+use Rattle.plan.specs.Limits.{maxPasses, maxSteps}
+use Rattle.run.specs.Limits.{ample}
 
 -- the settings' limits, as numbers
 pub record Small (s : Settings) : Type 0 where

@@ -12,7 +12,7 @@ use Rattle.triple.specs.Nine.{at}
 use Rattle.triple.specs.Sampled.{sampleWidth}
 use Rattle.startup.specs.Points.{timeAt}
 use Rattle.startup.specs.declared.Places.{Places}
-use Rattle.run.specs.declared.Plan.{Plan}
+use Rattle.plan.specs.declared.Plan.{Plan}
 use Rattle.run.specs.declared.Track.{Track}
 
 -- samples n to n + m - 1 all fit in the buffer

@@ -1,43 +1,12 @@
 // SPDX-License-Identifier: MIT OR Apache-2.0
-// The plan of a run, and the tests that its steps turn on.
+// The tests that the steps of a run turn on.
 ghost use mathlib.Core.Path.{_≡_};
-ghost use Rattle.run.specs.Plan.{directionOf, planOf, isTooNear};
 ghost use Rattle.run.specs.Formulas.{leftAt, isDue, isTail, isStill, isAtRest, tailFrom};
-use crate::Plan;
-use crate::Settings;
 use crate::Track;
+use plan::Plan;
 use triple::Point;
 use triple::State;
 use triple::Triple;
-
-// 1 forward, -1 backward and where a time is NaN.
-fn direction_of(t0: f64, tf: f64) -> f64
-    ensures { λ d. ⌜ d ≡ directionOf t0 tf ⌝ }
-{
-    if tf >= t0 { 1.0 } else { -1.0 }
-}
-
-pub fn plan_of(settings: Settings, t0: f64, tf: f64) -> Plan
-    ensures { λ p. ⌜ p ≡ planOf settings t0 tf ⌝ }
-{
-    let h = triple::abs(settings.h) * direction_of(t0, tf);
-    Plan {
-        settings,
-        t0,
-        tf,
-        h,
-    }
-}
-
-// Whether refusal 1 is due: no step at all, or a span of fewer than eight.
-pub fn is_too_near(p: Plan) -> bool
-    ensures { λ b. ⌜ b ≡ isTooNear p ⌝ }
-{
-    if p.h == 0.0 {
-        return true;
-    }
-    triple::abs((p.tf - p.t0) / p.h) < 8.0
-}
 
 // The time left at t, with its sign.
 pub fn left_at(p: Plan, t: f64) -> f64
@@ -50,7 +19,7 @@ pub fn left_at(p: Plan, t: f64) -> f64
 pub fn is_due(p: Plan, t: f64) -> bool
     ensures { λ b. ⌜ b ≡ isDue p t ⌝ }
 {
-    (p.tf - t) * direction_of(p.t0, p.tf) > 0.0
+    (p.tf - t) * plan::direction_of(p.t0, p.tf) > 0.0
 }
 
 // Whether what is left at t is short of a step, so that a tail is due.

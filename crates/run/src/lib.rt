@@ -1,6 +1,7 @@
 // SPDX-License-Identifier: MIT OR Apache-2.0
 // The run: its records, and the mathematics of each waiting point by parts. Nothing here decides what an answer leads to; that is
 // `gauss_jackson`, which alone is meant for callers.
+use plan::Plan;
 use startup::Places;
 use startup::Widest;
 use sums::Fixed;
@@ -9,25 +10,11 @@ use triple::State;
 use triple::Triple;
 
 pub mod formulas;
-pub mod limits;
 pub mod moves;
 pub mod questions;
 pub mod samples;
 pub mod sound;
 pub mod waiting;
-
-// What a caller chooses, together as one record; `default_settings` has the module's values.
-#[repr(C)]
-pub struct Settings {
-    pub h: f64,
-    pub corrector_tol: f64,
-    pub startup_tol: f64,
-    pub max_corrector_iters: u64,
-    pub max_startup_iters: u64,
-    pub max_steps: u64,
-    // 0 or 1; any other number is over its limit, so that no byte that a caller lends leans on its care.
-    pub samples: u8,
-}
 
 // Where the run waits, and the mathematics.
 #[repr(C)]
@@ -63,15 +50,6 @@ pub struct Body {
     pub startup_iters: u64,
     pub track: Track,
     pub trial: Trial,
-}
-
-// What never changes in a run. `h` is the step with its direction.
-#[repr(C)]
-pub struct Plan {
-    pub settings: Settings,
-    pub t0: f64,
-    pub tf: f64,
-    pub h: f64,
 }
 
 // The accelerations got so far in the open RK4 step.

@@ -3,13 +3,13 @@
 ghost use mathlib.Core.Path.{_≡_};
 ghost use Rattle.run.specs.Moves.{freshBody, withSlope, kept, endOf, surveyed, passBegun, renewed, launched, predicted, tried, endOfTail};
 use crate::Body;
-use crate::Plan;
 use crate::Slopes;
 use crate::Track;
 use crate::Trial;
 use crate::formulas;
 use crate::questions;
 use crate::waiting::Stage;
+use plan::Plan;
 use startup::Widest;
 use startup::passes;
 use sums::Fixed;

@@ -8,11 +8,12 @@ ghost use Rattle.run.specs.Ready.{Small};
 use crate::Body;
 use crate::Mark;
 use crate::Run;
-use crate::Settings;
-use crate::limits;
 use crate::waiting;
 use crate::waiting::Stage;
 use crate::waiting::Waiting;
+use plan::Plan;
+use plan::Settings;
+use plan::limits;
 
 const NUMBERING: u64 = 65536;
 
@@ -22,7 +23,7 @@ pub fn is_sound(run: Run) -> bool
     let mark = run.mark;
     let b = run.body;
     let count = mark.count;
-    if !limits::are_within_limits(b.plan.settings) {
+    if !limits::is_lawful(b.plan) {
         return false;
     }
     if (count.number as u64) != count.evals % NUMBERING {
@@ -142,8 +143,8 @@ fn body_counts(k: u64, e: u64, b: Body) -> bool
 }
 
 // Whether a sound run waits at a step's end, by the parts that this takes: what `is_sound` finds there, without the rest of the run.
-pub fn is_open_step(m: Mark, s: Settings, passes: u64, n: u64) -> bool
-    ensures { λ r. ⌜ r ≡ isOpenStep m s passes n ⌝ }
+pub fn is_open_step(m: Mark, p: Plan, passes: u64, n: u64) -> bool
+    ensures { λ r. ⌜ r ≡ isOpenStep m p passes n ⌝ }
 {
     if m.at != 6 {
         return false;
@@ -151,17 +152,17 @@ pub fn is_open_step(m: Mark, s: Settings, passes: u64, n: u64) -> bool
     if m.stage > 3 {
         return false;
     }
-    if !limits::are_within_limits(s) {
+    if !limits::is_lawful(p) {
         return false;
     }
     let e = m.count.evals;
     if (m.count.number as u64) != e % NUMBERING {
         return false;
     }
-    if (m.index as u64) > s.max_corrector_iters {
+    if (m.index as u64) > p.settings.max_corrector_iters {
         return false;
     }
-    step_counts(m.index as u64, e, s, passes, n)
+    step_counts(m.index as u64, e, p.settings, passes, n)
 }
 
 fn has_counts(w: Waiting, e: u64, b: Body) -> bool

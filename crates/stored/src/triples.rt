@@ -3,9 +3,9 @@
 ghost use mathlib.Core.Path.{_≡_};
 ghost use Rattle.stored.specs.Layout.{triplesOf};
 ghost use Rattle.stored.specs.Taken.{bodyFrom};
+use plan::Plan;
+use plan::Settings;
 use run::Body;
-use run::Plan;
-use run::Settings;
 use run::Slopes;
 use run::Track;
 use run::Trial;

@@ -1,4 +1,5 @@
 pub mod Arithmetic
 pub mod Size
+pub mod Finite
 pub mod Nine
 pub mod Sampled

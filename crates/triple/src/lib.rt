@@ -4,6 +4,7 @@
 ghost use mathlib.Core.Path.{_≡_};
 ghost use Rattle.triple.specs.Arithmetic.{zeros, plus, minus, times, over};
 ghost use Rattle.triple.specs.Size.{absolute, largerOf, sizeOf};
+ghost use Rattle.triple.specs.Finite.{isFinite};
 
 pub mod nine;
 
@@ -119,6 +120,13 @@ pub fn abs(x: f64) -> f64
         return 0.0;
     }
     if x < 0.0 { -x } else { x }
+}
+
+// Neither a NaN nor an infinity: only a finite number less itself is zero.
+pub fn is_finite(x: f64) -> bool
+    ensures { λ b. ⌜ b ≡ isFinite x ⌝ }
+{
+    x - x == 0.0
 }
 
 // a, unless b is greater: a NaN in b is passed over.

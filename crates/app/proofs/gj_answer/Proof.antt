@@ -62,8 +62,8 @@ use Rattle.run.proofs.Mark as Mark′
 use Rattle.run.proofs.Mark.Laws as Mark″
 use Rattle.startup.proofs.Places as Places′
 use Rattle.startup.proofs.Places.Laws as Places″
-use Rattle.run.proofs.Plan as Plan′
-use Rattle.run.proofs.Plan.Laws as Plan″
+use Rattle.plan.proofs.Plan as Plan′
+use Rattle.plan.proofs.Plan.Laws as Plan″
 use Rattle.app.proofs.Reply as Reply′
 use Rattle.app.proofs.Reply.Laws as Reply″
 use Rattle.run.proofs.Run as Run′

@@ -46,7 +46,7 @@ use Rattle.gauss_jackson.specs.Answers.{started}
 use denote.Struct.Laws as LL
 use Rattle.app.specs.declared.Replied.{Replied}
 use Rattle.run.specs.declared.Run.{Run}
-use Rattle.run.specs.declared.Settings.{Settings}
+use Rattle.plan.specs.declared.Settings.{Settings}
 use Rattle.triple.specs.declared.Triple.{Triple}
 use Rattle.app.proofs.Replied as Replied′
 use Rattle.app.proofs.Replied.Laws as Replied″
@@ -54,8 +54,8 @@ use Rattle.app.proofs.Reply as Reply′
 use Rattle.app.proofs.Reply.Laws as Reply″
 use Rattle.run.proofs.Run as Run′
 use Rattle.run.proofs.Run.Laws as Run″
-use Rattle.run.proofs.Settings as Settings′
-use Rattle.run.proofs.Settings.Laws as Settings″
+use Rattle.plan.proofs.Settings as Settings′
+use Rattle.plan.proofs.Settings.Laws as Settings″
 use Rattle.triple.proofs.Triple as Triple′
 use Rattle.triple.proofs.Triple.Laws as Triple″
 use Rattle.app.proofs.replies.started_by as g-started-by

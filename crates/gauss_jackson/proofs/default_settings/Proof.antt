@@ -1,7 +1,7 @@
 -- `default_settings` is `defaultSettings`.
 use mathlib.Core.Path.{refl}
 use lib.Ieee.{ofBits, ofInt, round}
-use Rattle.run.specs.Plan.{defaultSettings}
+use Rattle.plan.specs.Plan.{defaultSettings}
 use Rattle.gauss_jackson.proofs.default_settings.Statement.{statement}
 use Rattle.gauss_jackson.proofs.default_settings.Tie as tie
 

@@ -46,7 +46,7 @@ use denote.Struct.Laws as LL
 use denote.Enum.Laws as EL
 use Rattle.gauss_jackson.specs.declared.Answered.{Answered}
 use Rattle.run.specs.declared.Run.{Run}
-use Rattle.run.specs.declared.Settings.{Settings}
+use Rattle.plan.specs.declared.Settings.{Settings}
 use Rattle.triple.specs.declared.Triple.{Triple}
 use Rattle.gauss_jackson.proofs.Answered as Answered′
 use Rattle.gauss_jackson.proofs.Answered.Laws as Answered″
@@ -54,8 +54,8 @@ use Rattle.gauss_jackson.proofs.Outcome as Outcome′
 use Rattle.gauss_jackson.proofs.Outcome.Laws as Outcome″
 use Rattle.run.proofs.Run as Run′
 use Rattle.run.proofs.Run.Laws as Run″
-use Rattle.run.proofs.Settings as Settings′
-use Rattle.run.proofs.Settings.Laws as Settings″
+use Rattle.plan.proofs.Settings as Settings′
+use Rattle.plan.proofs.Settings.Laws as Settings″
 use Rattle.triple.proofs.Triple as Triple′
 use Rattle.triple.proofs.Triple.Laws as Triple″
 use Rattle.gauss_jackson.proofs.start as g-start

@@ -1,7 +1,7 @@
 -- `wants_samples` is `wantsSamples`.
-use Rattle.run.specs.Limits.{wantsSamples}
-use Rattle.run.proofs.limits.wants_samples.Statement.{statement}
-use Rattle.run.proofs.limits.wants_samples.Tie as tie
+use Rattle.plan.specs.Limits.{wantsSamples}
+use Rattle.plan.proofs.limits.wants_samples.Statement.{statement}
+use Rattle.plan.proofs.limits.wants_samples.Tie as tie
 
 returns : tie.Need-returns
 unfolding wantsSamples

@@ -5,8 +5,8 @@ use lib.IntN.{pos}
 use lib.Ieee.{Float, binary64, round, neg, sub, mul, div, lt, le, eq, ofInt}
 use Rattle.triple.specs.Arithmetic.{nought}
 use Rattle.triple.specs.Size.{absolute}
-use Rattle.run.specs.declared.Settings.{Settings}
-use Rattle.run.specs.declared.Plan.{Plan}
+use Rattle.plan.specs.declared.Settings.{Settings}
+use Rattle.plan.specs.declared.Plan.{Plan}
 
 -- the double nearest 10 ^ -n
 abbrev pub decimal : ℕ → Float

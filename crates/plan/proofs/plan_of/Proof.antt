@@ -1,8 +1,8 @@
 -- `formulas::plan_of` is `planOf`.
 use borrow.Author.Needs.{needs}
-use Rattle.run.specs.Plan.{planOf}
-use Rattle.run.proofs.formulas.plan_of.Statement.{statement}
-use Rattle.run.proofs.formulas.plan_of.Tie as tie
+use Rattle.plan.specs.Plan.{planOf}
+use Rattle.plan.proofs.plan_of.Statement.{statement}
+use Rattle.plan.proofs.plan_of.Tie as tie
 
 returns : tie.Need-returns
 unfolding planOf

@@ -1,8 +1,8 @@
 -- `are_within_limits` is `areWithinLimits`.
 use borrow.Author.Tests.{le-leb, lt-leb}
-use Rattle.run.specs.Limits.{areWithinLimits}
-use Rattle.run.proofs.limits.are_within_limits.Statement.{statement}
-use Rattle.run.proofs.limits.are_within_limits.Tie as tie
+use Rattle.plan.specs.Limits.{areWithinLimits}
+use Rattle.plan.proofs.limits.are_within_limits.Statement.{statement}
+use Rattle.plan.proofs.limits.are_within_limits.Tie as tie
 
 returns : tie.Need-returns
 unfolding areWithinLimits

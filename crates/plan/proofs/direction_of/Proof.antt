@@ -1,8 +1,8 @@
 -- `direction_of` is `directionOf`.
 use lib.Ieee.{ofBits, ofInt, neg}
-use Rattle.run.specs.Plan.{directionOf}
-use Rattle.run.proofs.formulas.direction_of.Statement.{statement}
-use Rattle.run.proofs.formulas.direction_of.Tie as tie
+use Rattle.plan.specs.Plan.{directionOf}
+use Rattle.plan.proofs.direction_of.Statement.{statement}
+use Rattle.plan.proofs.direction_of.Tie as tie
 
 returns : tie.Need-returns
 unfolding directionOf ofBits ofInt

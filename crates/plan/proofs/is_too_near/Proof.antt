@@ -1,9 +1,9 @@
 -- `is_too_near` is `isTooNear`.
 use lib.Ieee.{ofBits, ofInt}
 use borrow.Author.Needs.{needs}
-use Rattle.run.specs.Plan.{isTooNear}
-use Rattle.run.proofs.formulas.is_too_near.Statement.{statement}
-use Rattle.run.proofs.formulas.is_too_near.Tie as tie
+use Rattle.plan.specs.Plan.{isTooNear}
+use Rattle.plan.proofs.is_too_near.Statement.{statement}
+use Rattle.plan.proofs.is_too_near.Tie as tie
 
 returns : tie.Need-returns
 unfolding isTooNear ofBits

@@ -1,0 +1,4 @@
+pub mod Limits
+pub mod Plan
+pub mod Lawful
+pub mod Verdict
