@@ -16,8 +16,8 @@ use Rattle.sums.specs.Sums.{predictedState, fixedOf, correctedState}
 use Rattle.startup.specs.declared.Places.{Places}
 use Rattle.startup.specs.Points.{timeAt}
 use Rattle.plan.specs.declared.Plan.{Plan}
-use Rattle.run.specs.declared.Track.{Track}
 use Rattle.plan.specs.Limits.{wantsSamples}
+use Rattle.run.specs.declared.Track.{Track}
 use Rattle.run.specs.Formulas.{leftAt, isDue, isTail, isAtRest, startTrack, trackOn, tailFrom}
 use Rattle.run.specs.Samples.{gridSample, startSamples, stepSample, lastSample}
 use Rattle.rules.specs.Rules.{Course, stores, ends, exceeds, sampled, tail, correct, step, march, fly}

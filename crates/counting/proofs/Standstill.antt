@@ -12,10 +12,10 @@ use lib.Ieee.Scale.{round-same}
 use borrow.Author.Tests.{eqb-true, ne-eqb, le-ltb}
 use Rattle.triple.specs.Arithmetic.{nought}
 use Rattle.triple.specs.Size.{absolute}
-use Rattle.plan.specs.declared.Settings.{Settings}
-use Rattle.plan.specs.Plan.{directionOf, planOf, isTooNear}
 use Rattle.whole.proofs.Short.{Clear, round-clear}
 use Rattle.whole.proofs.Quotient.{round-neg}
+use Rattle.plan.specs.declared.Settings.{Settings}
+use Rattle.plan.specs.Plan.{directionOf, planOf, isTooNear}
 use Rattle.counting.specs.Starred.{isFinite, NoSpan, NoStep}
 use Rattle.counting.proofs.Starts.{near-start}
 

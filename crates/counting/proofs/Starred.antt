@@ -15,13 +15,13 @@ use Rattle.quintic.specs.Quintic.{delta1, delta2, delta3, curveOf, positionOn, 
 use Rattle.startup.specs.Points.{offset, timeAt}
 use Rattle.plan.specs.declared.Settings.{Settings}
 use Rattle.plan.specs.declared.Plan.{Plan}
-use Rattle.plan.specs.Plan.{directionOf, planOf, isTooNear}
-use Rattle.plan.specs.Limits.{areWithinLimits, wantsSamples}
-use Rattle.run.specs.Formulas.{leftAt, isDue, isTail}
-use Rattle.run.proofs.Counts.{both}
 use Rattle.plan.specs.declared.Verdict.{Verdict}
 use Rattle.plan.specs.declared.Verdict.the-variants.{Fine, Refuse}
+use Rattle.plan.specs.Limits.{areWithinLimits, wantsSamples}
+use Rattle.plan.specs.Plan.{directionOf, planOf, isTooNear}
 use Rattle.plan.specs.Verdict.{verdictOn}
+use Rattle.run.specs.Formulas.{leftAt, isDue, isTail}
+use Rattle.run.proofs.Counts.{both}
 use Rattle.rules.specs.Rules.{integrate}
 use Rattle.rules.specs.Walk.{Stop, beginBy}
 use Rattle.rules.specs.Asked.{clock}

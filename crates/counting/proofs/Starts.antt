@@ -6,10 +6,10 @@ use lib.Ieee.{Float}
 use Rattle.triple.specs.declared.Triple.{Triple}
 use Rattle.refusals.specs.declared.Refusal.the-variants.{StepNotFinite, Setting}
 use Rattle.plan.specs.declared.Settings.{Settings}
-use Rattle.plan.specs.Plan.{planOf, isTooNear}
-use Rattle.plan.specs.Limits.{areWithinLimits}
 use Rattle.plan.specs.declared.Verdict.{Verdict}
 use Rattle.plan.specs.declared.Verdict.the-variants.{Fine, Refuse}
+use Rattle.plan.specs.Limits.{areWithinLimits}
+use Rattle.plan.specs.Plan.{planOf, isTooNear}
 use Rattle.plan.specs.Verdict.{verdictOn}
 use Rattle.plan.proofs.Verdicts.{verdict-is}
 use Rattle.rules.specs.Rules.{integrate}

@@ -8,12 +8,12 @@ use lib.Signed.{leZ}
 use lib.Ieee.{Float, binary64, neg, le, ofInt}
 use borrow.Author.Tests.{leb-true, leb-false}
 use Rattle.triple.specs.Size.{absolute}
-use Rattle.plan.specs.declared.Settings.{Settings}
-use Rattle.plan.specs.Plan.{directionOf, planOf}
 use Rattle.whole.specs.Whole.{IsWhole}
 use Rattle.whole.proofs.Exact.{Is, move, neg-whole, one-whole}
 use Rattle.whole.proofs.Integers.{plus, less, Holds, Within, sum-parts, neg-parts, le-parts, le-int, abs-int, read, write}
 use Rattle.whole.proofs.Along.{Along, sent-along}
+use Rattle.plan.specs.declared.Settings.{Settings}
+use Rattle.plan.specs.Plan.{directionOf, planOf}
 use Rattle.counting.specs.Counting.{spanOf, Bounds}
 use Rattle.counting.proofs.Spans.{Span}
 

@@ -12,8 +12,8 @@ use Rattle.triple.specs.Arithmetic.{nought}
 use Rattle.quintic.specs.declared.Between.{Between}
 use Rattle.quintic.specs.Quintic.{quinticHermite}
 use Rattle.plan.specs.declared.Settings.{Settings}
-use Rattle.plan.specs.Plan.{planOf}
 use Rattle.plan.specs.Limits.{maxSteps, areWithinLimits}
+use Rattle.plan.specs.Plan.{planOf}
 use Rattle.rules.specs.Rules.{integrate}
 use Rattle.rules.specs.Walk.{refused, settle, begin}
 use Rattle.counting.specs.Paths.{Claims, Always}

@@ -11,10 +11,10 @@ use Rattle.triple.specs.declared.Triple.{Triple}
 use Rattle.triple.specs.declared.State.{State}
 use Rattle.triple.specs.Sampled.{sampleWidth}
 use Rattle.sums.specs.Sums.{correctedState}
+use Rattle.plan.specs.Limits.{wantsSamples}
 use Rattle.run.specs.declared.Count.{Count}
 use Rattle.run.specs.declared.Body.{Body}
 use Rattle.run.specs.declared.waiting.Waiting.the-variants.{Step}
-use Rattle.plan.specs.Limits.{wantsSamples}
 use Rattle.run.specs.Formulas.{isDue, isTail, isAtRest}
 use Rattle.run.specs.Moves.{tried, committed, predicted}
 use Rattle.run.specs.Samples.{hasRoom, hasPlace, putAll, stepSample, keptSample}

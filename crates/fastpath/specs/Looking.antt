@@ -9,12 +9,12 @@ use Rattle.triple.specs.declared.State.{State}
 use Rattle.sums.specs.declared.Sums.{Sums}
 use Rattle.sums.specs.Sums.{correctedState}
 use Rattle.plan.specs.declared.Plan.{Plan}
+use Rattle.plan.specs.Limits.{wantsSamples}
 use Rattle.run.specs.declared.Mark.{Mark}
 use Rattle.run.specs.declared.Count.{Count}
 use Rattle.run.specs.declared.Track.{Track}
 use Rattle.run.specs.declared.Trial.{Trial}
 use Rattle.run.specs.declared.waiting.Waiting.the-variants.{Step}
-use Rattle.plan.specs.Limits.{wantsSamples}
 use Rattle.run.specs.Formulas.{isDue, isTail, isAtRest}
 use Rattle.run.specs.Waiting.{markAt}
 use Rattle.run.specs.Samples.{hasPlace}

@@ -6,11 +6,11 @@ use Rattle.triple.specs.declared.State.{State}
 use Rattle.triple.specs.Nine.{slid}
 use Rattle.sums.specs.Sums.{onSums, predictedState, fixedOf}
 use Rattle.plan.specs.declared.Plan.{Plan}
+use Rattle.plan.specs.Limits.{wantsSamples}
 use Rattle.run.specs.declared.Mark.{Mark}
 use Rattle.run.specs.declared.Track.{Track}
 use Rattle.run.specs.declared.Trial.{Trial}
 use Rattle.run.specs.declared.Run.{Run}
-use Rattle.plan.specs.Limits.{wantsSamples}
 use Rattle.run.specs.Samples.{stepSample, keptSample}
 use Rattle.gauss_jackson.specs.declared.Question.{Question}
 use Rattle.gauss_jackson.specs.declared.Outcome.the-variants.{Ask}

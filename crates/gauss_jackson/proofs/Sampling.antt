@@ -9,8 +9,8 @@ use lib.Ieee.{Float}
 use Rattle.triple.specs.declared.Sample.{Sample}
 use Rattle.triple.specs.Sampled.{sampleWidth}
 use Rattle.refusals.specs.declared.Refusal.the-variants.{SampleRoom}
-use Rattle.run.specs.declared.Body.{Body}
 use Rattle.plan.specs.Limits.{wantsSamples}
+use Rattle.run.specs.declared.Body.{Body}
 use Rattle.run.specs.Samples.{hasRoom, put, putAll, hasPlace, keptSample, keptPoints, startSamples}
 use Rattle.run.proofs.Placing.{points-put, points-off}
 use Rattle.gauss_jackson.specs.declared.Answered.{Answered}

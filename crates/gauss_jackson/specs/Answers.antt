@@ -10,27 +10,28 @@ use Rattle.triple.specs.declared.State.{State}
 use Rattle.triple.specs.declared.Sample.{Sample}
 use Rattle.triple.specs.Arithmetic.{nought, zeros}
 use Rattle.refusals.specs.declared.Refusal.{Refusal}
-use Rattle.refusals.specs.declared.Refusal.the-variants.{StepNotFinite, MaxStepsExceeded, Setting, SampleRoom, NoQuestion, NotThatQuestion}
+use Rattle.refusals.specs.declared.Refusal.the-variants.{MaxStepsExceeded, SampleRoom, NoQuestion, NotThatQuestion}
 use Rattle.sums.specs.Sums.{correctedState}
 use Rattle.startup.specs.Passes.{isSettled}
 use Rattle.plan.specs.declared.Settings.{Settings}
 use Rattle.plan.specs.declared.Plan.{Plan}
+use Rattle.plan.specs.declared.Verdict.{Verdict}
+use Rattle.plan.specs.declared.Verdict.the-variants.{Fine, Refuse}
+use Rattle.plan.specs.Limits.{wantsSamples}
+use Rattle.plan.specs.Plan.{planOf}
+use Rattle.plan.specs.Verdict.{verdictOn}
 use Rattle.run.specs.declared.Count.{Count}
 use Rattle.run.specs.declared.Body.{Body}
 use Rattle.run.specs.declared.Run.{Run}
 use Rattle.gauss_jackson.specs.declared.Question.{Question}
 use Rattle.gauss_jackson.specs.declared.Solution.{Solution}
 use Rattle.gauss_jackson.specs.declared.Answered.{Answered}
-use Rattle.plan.specs.declared.Verdict.{Verdict}
-use Rattle.plan.specs.declared.Verdict.the-variants.{Fine, Refuse}
 use Rattle.gauss_jackson.specs.declared.Outcome.{Outcome}
 use Rattle.gauss_jackson.specs.declared.Outcome.the-variants.{Ask, Done, Refused}
 use Rattle.run.specs.declared.waiting.Stage.{Stage}
 use Rattle.run.specs.declared.waiting.Stage.the-variants.{First, Second, Third, Fourth}
 use Rattle.run.specs.declared.waiting.Waiting.{Waiting}
 use Rattle.run.specs.declared.waiting.Waiting.the-variants.{Epoch, Forward, Backward, Survey, Pass, Step, Tail, TailSample, Ended, Unknown}
-use Rattle.plan.specs.Plan.{planOf, isTooNear}
-use Rattle.plan.specs.Limits.{areWithinLimits, wantsSamples}
 use Rattle.run.specs.Limits.{numbering}
 use Rattle.run.specs.Formulas.{isDue, isTail, isAtRest}
 use Rattle.run.specs.Waiting.{isLast, stageAfter, markAt, waitsAt, nextPoint}
@@ -190,10 +191,6 @@ answered run n a out =
     (quiet (refusing run NoQuestion) out)
 
 -- ---- a start
--- "Order: at start 5, 1."
-unfoldable pub verdictOn : Plan → Verdict
-verdictOn p = cond (areWithinLimits (p .settings)) (cond (isTooNear p) (Refuse StepNotFinite) Fine) (Refuse Setting)
-
 unfoldable pub startedBy : Verdict → Plan → Triple → Triple → Answered
 startedBy Fine p r0 v0 = asking Epoch (record { number = 0; evals = 0 }) (freshBody p r0 v0)
 startedBy (Refuse e) p r0 v0 = ending (Refused e)

@@ -27,8 +27,8 @@ split p = go (isLawful p) (isTooNear p) refl refl
     go true false e f = fine e f (verdict-is p true false e f)
 
 -- test by test: 5, then 12, then 1
-pub in-order : (p : Plan) (l d t : Bool) → areWithinLimits (p .settings) ≡ l → isDated p ≡ d → isTooNear p ≡ t
+pub by-tests : (p : Plan) (l d t : Bool) → areWithinLimits (p .settings) ≡ l → isDated p ≡ d → isTooNear p ≡ t
     → verdictOn p ≡ cond l (cond d (cond t (Refuse StepNotFinite) Fine) (Refuse BlankDate)) (Refuse Setting)
 unfolding verdictOn isLawful faultOf
-in-order p true d t e f g = rw (e, f, g)
-in-order p false d t e f g = rw (e)
+by-tests p true d t e f g = rw (e, f, g)
+by-tests p false d t e f g = rw (e)

@@ -13,6 +13,11 @@ use Rattle.sums.specs.Sums.{correctedState}
 use Rattle.startup.specs.Passes.{isSettled}
 use Rattle.plan.specs.declared.Settings.{Settings}
 use Rattle.plan.specs.declared.Plan.{Plan}
+use Rattle.plan.specs.declared.Verdict.{Verdict}
+use Rattle.plan.specs.declared.Verdict.the-variants.{Fine, Refuse}
+use Rattle.plan.specs.Limits.{wantsSamples}
+use Rattle.plan.specs.Plan.{planOf}
+use Rattle.plan.specs.Verdict.{verdictOn}
 use Rattle.run.specs.declared.Count.{Count}
 use Rattle.run.specs.declared.Body.{Body}
 use Rattle.run.specs.declared.Run.{Run}
@@ -20,8 +25,6 @@ use Rattle.run.specs.declared.waiting.Stage.{Stage}
 use Rattle.run.specs.declared.waiting.Stage.the-variants.{First}
 use Rattle.run.specs.declared.waiting.Waiting.{Waiting}
 use Rattle.run.specs.declared.waiting.Waiting.the-variants.{Epoch, Forward, Backward, Survey, Pass, Step, Tail, TailSample, Ended, Unknown}
-use Rattle.plan.specs.Plan.{planOf}
-use Rattle.plan.specs.Limits.{wantsSamples}
 use Rattle.run.specs.Formulas.{isDue, isTail, isAtRest}
 use Rattle.run.specs.Waiting.{waitsAt, isLast, stageAfter, nextPoint}
 use Rattle.run.specs.Moves.{surveyed, kept, endOf, movedOn, movedBack, passBegun, renewed, passMade, launched, predicted, tried, committed, endOfTail}
@@ -29,9 +32,6 @@ use Rattle.run.specs.Samples.{hasRoom}
 use Rattle.run.specs.Sound.{isSound}
 use Rattle.gauss_jackson.specs.declared.Answered.{Answered}
 use Rattle.gauss_jackson.specs.declared.Outcome.{Outcome}
-use Rattle.plan.specs.declared.Verdict.{Verdict}
-use Rattle.plan.specs.declared.Verdict.the-variants.{Fine, Refuse}
-use Rattle.plan.specs.Verdict.{verdictOn}
 use Rattle.gauss_jackson.specs.Answers.{noPlan, endedRun, ending, asking, onward, Given, sampling, startupEnded, stepEnded, passesOn, passEnded, rk4Taken, forwardEnded, backwardEnded, tailEnded, surveyTaken, passTaken, stepTaken, lastTaken, answeredAt, refusing, answered, startedBy, started, nextCount}
 use Rattle.resumed.proofs.Good.{FitPlan, Good, surveyed-good, kept-good, on-good, back-good, begun-good, renewed-good, made-good, launched-good, predicted-good, tried-good, committed-good, fresh-good}
 use Rattle.resumed.proofs.Fitting.{F, Fit, nought-fits, zeros-fit, end-fit, corrected-fit}

@@ -19,8 +19,8 @@ use Rattle.startup.specs.declared.Widest.{Widest}
 use Rattle.startup.specs.Points.{pointAt, firstPlaces, placed}
 use Rattle.startup.specs.Passes.{passPlaces, widened, calmAt, isSettled}
 use Rattle.plan.specs.declared.Plan.{Plan}
-use Rattle.run.specs.declared.Track.{Track}
 use Rattle.plan.specs.Limits.{wantsSamples}
+use Rattle.run.specs.declared.Track.{Track}
 use Rattle.run.specs.Formulas.{leftAt, isDue, isTail, isAtRest, startTrack, trackOn, stepPoint, tailFrom, finalPoint}
 use Rattle.run.specs.Samples.{startSamples, stepSample, lastSample}
 use Rattle.rules.specs.Rules.{Course, asks, stores, ends, exceeds, rk4, forward, backward, others, survey, renew, passes, sampled, tail, correct, step, march, fly, integrate}

@@ -10,15 +10,17 @@ use lib.ListN.{length}
 use lib.Ieee.{Float}
 use borrow.Author.Tests.{ltb-true, ltb-false}
 use Rattle.triple.specs.declared.Sample.{Sample}
+use Rattle.triple.specs.Finite.{isFinite}
 use Rattle.refusals.specs.declared.Refusal.the-variants.{MaxStepsExceeded, SampleRoom}
 use Rattle.startup.specs.Passes.{isSettled}
 use Rattle.plan.specs.declared.Plan.{Plan}
+use Rattle.plan.specs.Limits.{areWithinLimits, wantsSamples}
+use Rattle.plan.specs.Lawful.{isDated, isLawful}
 use Rattle.run.specs.declared.Count.{Count}
 use Rattle.run.specs.declared.Body.{Body}
 use Rattle.run.specs.declared.waiting.Stage.the-variants.{First}
 use Rattle.run.specs.declared.waiting.Waiting.{Waiting}
 use Rattle.run.specs.declared.waiting.Waiting.the-variants.{Pass, Step, Tail}
-use Rattle.plan.specs.Limits.{areWithinLimits, wantsSamples}
 use Rattle.run.specs.Limits.{numbering}
 use Rattle.run.specs.Formulas.{isDue, isTail, startTrack}
 use Rattle.run.specs.Waiting.{stageFrom, waitingAt, waitsAt}
@@ -42,14 +44,14 @@ unfolding nextCount
 numbered-on c h = omega arith
 
 -- ---- a question is asked: the line stands open at it
-pub asked-is : (w : Waiting) (c : Count) (b : Body) (out : List Float) → areWithinLimits (b .plan .settings) ≡ true → c .number ≡ c .evals % numbering → Counts w (c .evals) b
+pub asked-is : (w : Waiting) (c : Count) (b : Body) (out : List Float) → isLawful (b .plan) ≡ true → c .number ≡ c .evals % numbering → Counts w (c .evals) b
     → seen (quiet (asking w c b) out) ≡ settle (restAt w b) (c .number) (c .evals) out
 unfolding seen asking questionOf told settle lineOf rest restAt opened
 asked-is w c b out l n h = simp (sound-at w c b l n h, read w c)
 
 -- ---- the run is ended: nothing is open
 ended-run : isSound endedRun ≡ false
-unfolding isSound hasCounts waitsAt waitingAt stageFrom endedRun noPlan freshBody areWithinLimits
+unfolding isSound hasCounts waitsAt waitingAt stageFrom endedRun noPlan freshBody isLawful isDated isFinite areWithinLimits
 ended-run = refl
 
 pub ended-is : (o : Outcome) (out : List Float) → seen (quiet (ending o) out) ≡ record { said = told o; out = out; line = over }
@@ -80,7 +82,7 @@ unfolding sampled
 wanted-is p i ss t e = ap (λ (d : Bool). cond d (stores i ss t) t) e
 
 -- ---- the head of the steps
-module _ (c : Count) (b : Body) (l : areWithinLimits (b .plan .settings) ≡ true) (n : c .number ≡ c .evals % numbering) where
+module _ (c : Count) (b : Body) (l : isLawful (b .plan) ≡ true) (n : c .number ≡ c .evals % numbering) where
   onward-is : SteppingBody 0 (c .evals) b → (out : List Float) → seen (quiet (onward c b) out) ≡ settle (loop b) (c .number) (c .evals) out
   unfolding onward settle solutionOf told predicted
   onward-is s out =
@@ -111,7 +113,7 @@ module _ (c : Count) (b : Body) (l : areWithinLimits (b .plan .settings) ≡ tru
   step-ended-is out s = sampling-is (b .track .steps) (stepSample (b .track) (b .a) ∷ []) b out (onward c b) (loop b) (c .number) (c .evals) (onward-is s)
 
 -- ---- the end of the startup, the head of its passes, and the end of one
-module _ (c : Count) (b : Body) (l : areWithinLimits (b .plan .settings) ≡ true) (n : c .number ≡ c .evals % numbering) (s : Swept (c .evals) b) where
+module _ (c : Count) (b : Body) (l : isLawful (b .plan) ≡ true) (n : c .number ≡ c .evals % numbering) (s : Swept (c .evals) b) where
   startup-ended-is : (out : List Float) → (b .«startup_iters» ≡ 0 → b .plan .settings .«max_startup_iters» ≡ 0)
       → seen (startupEnded c b out) ≡ settle (fly (b .plan) (b .«startup_iters») (b .places) (b .a)) (c .number) (c .evals) out
   unfolding startupEnded fly launched startTrack
@@ -129,7 +131,7 @@ module _ (c : Count) (b : Body) (l : areWithinLimits (b .plan .settings) ≡ tru
       go true q = rw (renewing-is 0 (passBegun b)) (asked-is (Pass 0) c (passBegun b) out l n (pass-first (c .evals) b s (ltb-true _ _ q)))
       go false q = let h : b .plan .settings .«max_startup_iters» ≤ b .«startup_iters» = ltb-false _ _ q in startup-ended-is out (λ z. omega arith)
 
-pub pass-ended-is : (c : Count) (b : Body) (out : List Float) → areWithinLimits (b .plan .settings) ≡ true → c .number ≡ c .evals % numbering → Swept (c .evals) (passMade b)
+pub pass-ended-is : (c : Count) (b : Body) (out : List Float) → isLawful (b .plan) ≡ true → c .number ≡ c .evals % numbering → Swept (c .evals) (passMade b)
     → seen (passEnded c b out) ≡ settle (passed b (b .a) (b .widest)) (c .number) (c .evals) out
 unfolding passEnded passMade
 pass-ended-is c b out l n s = go (isSettled (b .plan .settings .«startup_tol») (b .widest))

@@ -11,6 +11,8 @@ use Rattle.triple.specs.declared.Triple.{Triple}
 use Rattle.triple.specs.declared.State.{State}
 use Rattle.refusals.specs.declared.Refusal.the-variants.{NotThatQuestion}
 use Rattle.sums.specs.Sums.{correctedState}
+use Rattle.plan.specs.Limits.{wantsSamples}
+use Rattle.plan.specs.Lawful.{isLawful}
 use Rattle.run.specs.declared.Count.{Count}
 use Rattle.run.specs.declared.Body.{Body}
 use Rattle.run.specs.declared.Run.{Run}
@@ -18,7 +20,6 @@ use Rattle.run.specs.declared.waiting.Stage.{Stage}
 use Rattle.run.specs.declared.waiting.Stage.the-variants.{First, Second, Third, Fourth}
 use Rattle.run.specs.declared.waiting.Waiting.{Waiting}
 use Rattle.run.specs.declared.waiting.Waiting.the-variants.{Epoch, Forward, Backward, Survey, Pass, Step, Tail, TailSample, Ended, Unknown}
-use Rattle.plan.specs.Limits.{areWithinLimits, wantsSamples}
 use Rattle.run.specs.Limits.{numbering}
 use Rattle.run.specs.Formulas.{isAtRest, stepPoint, finalPoint}
 use Rattle.run.specs.Waiting.{isLast, stageAfter, waitsAt, nextPoint}
@@ -37,7 +38,7 @@ use Rattle.rules.proofs.Loops.{seeing-is, renewing-is, forward-done, la
 use Rattle.rules.proofs.Bridge.{numbered-on, asked-is, ended-is, sampling-is, wanted-is, step-ended-is, passes-on-is, pass-ended-is}
 
 -- ---- the right answer at a waiting point: c counts the answers up to this one
-module _ (i e : ℕ) (c : Count) (b : Body) (x : Triple) (l : areWithinLimits (b .plan .settings) ≡ true) (n : c .number ≡ c .evals % numbering) (u : c .evals ≡ e + 1) where
+module _ (i e : ℕ) (c : Count) (b : Body) (x : Triple) (l : isLawful (b .plan) ≡ true) (n : c .number ≡ c .evals % numbering) (u : c .evals ≡ e + 1) where
   forward-end-is : (out : List Float) → Counts (Forward i Fourth) e b → seen (quiet (forwardEnded i c b x) out) ≡ settle (ahead (i + 1) (movedOn i b x)) (c .number) (c .evals) out
   unfolding forwardEnded movedOn
   forward-end-is out k = go (ltb i 7) refl
@@ -154,14 +155,14 @@ module _ (i e : ℕ) (c : Count) (b : Body) (x : Triple) (l : areWithinLimits (b
 
 -- ---- an RK4 step, whose waiting points are w and whose end leads to k
 -- a question whose rest is known by another name
-asked-by : (v : Waiting) (c : Count) (b : Body) (out : List Float) {z : Body → Triple → Course} → areWithinLimits (b .plan .settings) ≡ true → c .number ≡ c .evals % numbering
+asked-by : (v : Waiting) (c : Count) (b : Body) (out : List Float) {z : Body → Triple → Course} → isLawful (b .plan) ≡ true → c .number ≡ c .evals % numbering
     → next v ≡ z → Counts v (c .evals) b → seen (quiet (asking v c b) out) ≡ settle (asks (questionAt v b) (z b)) (c .number) (c .evals) out
 unfolding restAt
 asked-by v c b out l n e h =
     asked-is v c b out l n h ∙ ap (λ (y : Body → Triple → Course). settle (asks (questionAt v b) (y b)) (c .number) (c .evals) out) e
 
 rk4-is : (w : Stage → Waiting) (k : Body → Triple → Course) (c : Count) (b : Body) (x : Triple) (out : List Float) (end : Answered)
-    → areWithinLimits (b .plan .settings) ≡ true → c .number ≡ c .evals % numbering
+    → isLawful (b .plan) ≡ true → c .number ≡ c .evals % numbering
     → ((s : Stage) → next (w s) ≡ stage w k s)
     → (s : Stage) → (isLast s ≡ false → Counts (w (stageAfter s)) (c .evals) (kept s b x)) → (s ≡ Fourth → seen (quiet end out) ≡ settle (k b x) (c .number) (c .evals) out)
     → seen (quiet (rk4Taken w s c b x end) out) ≡ settle (stage w k s b x) (c .number) (c .evals) out
@@ -172,7 +173,7 @@ rk4-is w k c b x out end l n f Third g h = asked-by (w Fourth) c (kept Third b x
 rk4-is w k c b x out end l n f Fourth g h = h refl
 
 -- ---- the one-call lemma, a line for each waiting point
-point-is : (w : Waiting) (c : Count) (b : Body) (x : Triple) (out : List Float) → areWithinLimits (b .plan .settings) ≡ true → c .number ≡ c .evals % numbering → Counts w (c .evals) b
+point-is : (w : Waiting) (c : Count) (b : Body) (x : Triple) (out : List Float) → isLawful (b .plan) ≡ true → c .number ≡ c .evals % numbering → Counts w (c .evals) b
     → seen (answeredAt w (nextCount c) b x out) ≡ settle (next w b x) (nextCount c .number) (nextCount c .evals) out
 unfolding answeredAt next restAt surveyed nextCount
 point-is Epoch c b x out l n k =
@@ -206,7 +207,7 @@ call-is run k = go (isSound run) refl
         ≡ cond d
         (settle (next (waitsAt (run .mark)) (run .body) (k .a)) (nextCount (run .mark .count) .number) (nextCount (run .mark .count) .evals) (k .out))
         (record { said = refused 8; out = k .out; line = opened (run .mark .count .number) (run .mark .count .evals) (rest run) })
-    right true f e = point-is (waitsAt (run .mark)) (run .mark .count) (run .body) (k .a) (k .out) (f .limited) (f .numbered) (f .counted)
+    right true f e = point-is (waitsAt (run .mark)) (run .mark .count) (run .body) (k .a) (k .out) (f .lawful) (f .numbered) (f .counted)
     right false f e = simp e
 
     go : (d : Bool) → isSound run ≡ d → seen (answered run (k .number) (k .a) (k .out)) ≡ called (lineOf run) k

@@ -8,23 +8,23 @@ use lib.ListN.{set}
 use lib.Ieee.{Float}
 use Rattle.triple.specs.declared.Triple.{Triple}
 use Rattle.triple.specs.Nine.{at, nineZeros}
-use Rattle.refusals.specs.declared.Refusal.the-variants.{StepNotFinite, Setting}
+use Rattle.refusals.specs.declared.Refusal.the-variants.{StepNotFinite}
 use Rattle.startup.specs.declared.Places.{Places}
 use Rattle.startup.specs.Points.{firstPlaces}
 use Rattle.plan.specs.declared.Settings.{Settings}
 use Rattle.plan.specs.declared.Plan.{Plan}
+use Rattle.plan.specs.declared.Verdict.{Verdict}
+use Rattle.plan.specs.Plan.{planOf}
+use Rattle.plan.specs.Lawful.{isLawful}
+use Rattle.plan.specs.Verdict.{faultOf, verdictOn}
+use Rattle.plan.proofs.Verdicts.{Case, not-lawful, too-near, fine, split}
 use Rattle.run.specs.declared.Run.{Run}
 use Rattle.run.specs.declared.waiting.Waiting.the-variants.{Epoch}
-use Rattle.plan.specs.Plan.{planOf}
-use Rattle.plan.specs.Limits.{areWithinLimits}
 use Rattle.run.specs.Questions.{epochPoint, questionAt}
 use Rattle.run.specs.Moves.{freshBody, surveyed}
 use Rattle.gauss_jackson.specs.declared.Answered.{Answered}
 use Rattle.gauss_jackson.specs.declared.Outcome.the-variants.{Refused}
-use Rattle.plan.specs.declared.Verdict.{Verdict}
-use Rattle.plan.specs.Verdict.{verdictOn}
 use Rattle.gauss_jackson.specs.Answers.{asking, answered, startedBy, started}
-use Rattle.plan.proofs.Verdicts.{Case, over-limit, too-near, fine, split}
 use Rattle.rules.specs.Rules.{Course, asks, forward, backward, others, survey, passes, fly, integrate}
 use Rattle.rules.specs.Walk.{told, Call, Result, Stop, settle, walk, beginBy, begin}
 use Rattle.rules.specs.Follows.{heard, played, FollowsTheRules}
@@ -64,13 +64,13 @@ begins s t0 tf r0 v0 = go (split p)
     by : {v : Verdict} → verdictOn p ≡ v → begun (startedBy v p r0 v0) ≡ beginBy v p r0 v0 → begun (startedBy (verdictOn p) p r0 v0) ≡ beginBy (verdictOn p) p r0 v0
     by e h = subst (λ (v : Verdict). begun (startedBy v p r0 v0) ≡ beginBy v p r0 v0) (sym e) h
 
-    asked : areWithinLimits s ≡ true → begun (asking Epoch (record { number = 0; evals = 0 }) (freshBody p r0 v0)) ≡ settle (integrate p r0 v0) 0 0 []
+    asked : isLawful p ≡ true → begun (asking Epoch (record { number = 0; evals = 0 }) (freshBody p r0 v0)) ≡ settle (integrate p r0 v0) 0 0 []
     asked e =
         asked-is Epoch (record { number = 0; evals = 0 }) (freshBody p r0 v0) [] e refl (refl, record { passes = refl; steps = refl })
         ∙ ap (λ (t : Course). settle t 0 0 []) (started-is p r0 v0)
 
     go : Case p → begun (startedBy (verdictOn p) p r0 v0) ≡ beginBy (verdictOn p) p r0 v0
-    go (over-limit l e) = by e (ended-is (Refused Setting) [])
+    go (not-lawful l e) = by e (ended-is (Refused (faultOf p)) [])
     go (too-near l n e) = by e (ended-is (Refused StepNotFinite) [])
     go (fine l n e) = by e (asked l)
 

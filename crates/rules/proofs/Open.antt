@@ -6,11 +6,14 @@ use mathlib.Core.List.{List, []}
 use lib.Dec.{eqb}
 use lib.ListN.{length}
 use lib.Ieee.{Float}
+use Rattle.plan.specs.declared.Settings.{Settings}
+use Rattle.plan.specs.declared.Plan.{Plan}
+use Rattle.plan.specs.declared.Verdict.{Verdict}
+use Rattle.plan.specs.declared.Verdict.the-variants.{Fine, Refuse}
+use Rattle.plan.specs.Plan.{planOf}
+use Rattle.plan.specs.Verdict.{verdictOn}
 use Rattle.run.specs.declared.Run.{Run}
 use Rattle.triple.specs.declared.Triple.{Triple}
-use Rattle.plan.specs.declared.Plan.{Plan}
-use Rattle.plan.specs.Plan.{planOf}
-use Rattle.plan.specs.declared.Settings.{Settings}
 use Rattle.run.specs.Limits.{numbering}
 use Rattle.run.specs.Waiting.{waitsAt}
 use Rattle.run.specs.Samples.{hasRoom, putAll}
@@ -19,9 +22,6 @@ use Rattle.gauss_jackson.specs.declared.Outcome.{Outcome}
 use Rattle.gauss_jackson.specs.declared.Outcome.the-variants.{Refused}
 use Rattle.refusals.specs.Numbers.{numberOf}
 use Rattle.refusals.specs.declared.Refusal.the-variants.{NoQuestion, NotThatQuestion}
-use Rattle.plan.specs.declared.Verdict.{Verdict}
-use Rattle.plan.specs.declared.Verdict.the-variants.{Fine, Refuse}
-use Rattle.plan.specs.Verdict.{verdictOn}
 use Rattle.gauss_jackson.specs.Answers.{quiet, nextCount, questionOf, answeredAt, refusing, answered, started, openQuestion}
 use Rattle.rules.specs.Rules.{Course, asks, stores, ends, exceeds, integrate}
 use Rattle.rules.specs.Walk.{Said, question, refused, finished, told, Call, Line, open-at, over, Stop, settle, called, beginBy, begin}

@@ -9,13 +9,13 @@ use Rattle.triple.specs.Nine.{at}
 use Rattle.startup.specs.declared.Places.{Places}
 use Rattle.startup.specs.declared.Widest.{Widest}
 use Rattle.startup.specs.Passes.{isSettled}
+use Rattle.plan.specs.Limits.{wantsSamples}
 use Rattle.run.specs.declared.Body.{Body}
 use Rattle.run.specs.declared.Run.{Run}
 use Rattle.run.specs.declared.waiting.Stage.{Stage}
 use Rattle.run.specs.declared.waiting.Stage.the-variants.{First, Second, Third, Fourth}
 use Rattle.run.specs.declared.waiting.Waiting.{Waiting}
 use Rattle.run.specs.declared.waiting.Waiting.the-variants.{Epoch, Forward, Backward, Survey, Pass, Step, Tail, TailSample, Ended, Unknown}
-use Rattle.plan.specs.Limits.{wantsSamples}
 use Rattle.run.specs.Formulas.{finalPoint}
 use Rattle.run.specs.Waiting.{waitsAt}
 use Rattle.run.specs.Questions.{questionAt}

@@ -13,12 +13,12 @@ use Rattle.refusals.specs.Numbers.{numberOf}
 use Rattle.refusals.specs.declared.Refusal.the-variants.{MaxStepsExceeded, SampleRoom, NoQuestion, NotThatQuestion}
 use Rattle.plan.specs.declared.Settings.{Settings}
 use Rattle.plan.specs.declared.Plan.{Plan}
-use Rattle.plan.specs.Plan.{planOf}
-use Rattle.run.specs.Limits.{numbering}
-use Rattle.run.specs.Samples.{hasRoom, putAll}
-use Rattle.plan.specs.Verdict.{verdictOn}
 use Rattle.plan.specs.declared.Verdict.{Verdict}
 use Rattle.plan.specs.declared.Verdict.the-variants.{Fine, Refuse}
+use Rattle.plan.specs.Plan.{planOf}
+use Rattle.plan.specs.Verdict.{verdictOn}
+use Rattle.run.specs.Limits.{numbering}
+use Rattle.run.specs.Samples.{hasRoom, putAll}
 use Rattle.gauss_jackson.specs.declared.Outcome.{Outcome}
 use Rattle.gauss_jackson.specs.declared.Outcome.the-variants.{Ask, Done, Refused}
 use Rattle.rules.specs.Rules.{Course, asks, stores, ends, exceeds, integrate}

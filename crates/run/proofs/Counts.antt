@@ -8,6 +8,9 @@ use mathlib.Core.Bool.{Bool, true, false, not, _&&_, cond}
 use lib.Dec.{eqb, ltb, leb}
 use borrow.Author.Tests.{leb-true, ltb-true, ltb-false, eqb-true, eqb-false, le-leb, lt-ltb, le-ltb, eq-eqb, ne-eqb}
 use Rattle.plan.specs.declared.Settings.{Settings}
+use Rattle.plan.specs.declared.Plan.{Plan}
+use Rattle.plan.specs.Limits.{maxPasses, maxSteps, areWithinLimits, wantsSamples}
+use Rattle.plan.specs.Lawful.{isDated, isLawful}
 use Rattle.run.specs.declared.Count.{Count}
 use Rattle.run.specs.declared.Body.{Body}
 use Rattle.run.specs.declared.Run.{Run}
@@ -15,7 +18,6 @@ use Rattle.run.specs.declared.waiting.Stage.{Stage}
 use Rattle.run.specs.declared.waiting.Stage.the-variants.{First, Second, Third, Fourth}
 use Rattle.run.specs.declared.waiting.Waiting.{Waiting}
 use Rattle.run.specs.declared.waiting.Waiting.the-variants.{Epoch, Forward, Backward, Survey, Pass, Step, Tail, TailSample, Ended, Unknown}
-use Rattle.plan.specs.Limits.{maxPasses, maxSteps, areWithinLimits, wantsSamples}
 use Rattle.run.specs.Limits.{numbering, ample}
 use Rattle.run.specs.Waiting.{stageNumber, markAt, waitsAt}
 use Rattle.run.specs.Sound.{isIdle, forwardCounts, backwardCounts, rankOf, pointCounts, passCounts, isStartedUp, stepCounts, bodyCounts, hasCounts, isSound}
@@ -161,14 +163,18 @@ from-counts Unknown e b c = absurd c
 
 -- ---- a sound run
 pub record Facts (run : Run) : Type 0 where
-  pub limited : areWithinLimits (run .body .plan .settings) ≡ true
+  pub lawful : isLawful (run .body .plan) ≡ true
   pub numbered : run .mark .count .number ≡ run .mark .count .evals % numbering
   pub counted : Counts (waitsAt (run .mark)) (run .mark .count .evals) (run .body)
 
-pub to-small : (s : Settings) → areWithinLimits s ≡ true → Small s
+pub within : (p : Plan) → isLawful p ≡ true → areWithinLimits (p .settings) ≡ true
+unfolding isLawful
+within p t = both (areWithinLimits (p .settings)) (isDated p) t .0
+
+pub to-small : (p : Plan) → isLawful p ≡ true → Small (p .settings)
 unfolding areWithinLimits
-to-small s t =
-    let h = both _ _ t in
+to-small p t =
+    let h = both _ _ (within p t) in
     let f = both _ _ (h .0) in
     let k = both _ _ (f .0) in
     record { startups = leb-true _ _ (k .0); passes = leb-true _ _ (k .1); steps = leb-true _ _ (h .1) }
@@ -178,10 +184,10 @@ unfolding isSound
 to-facts run t =
     let h = both _ _ t in
     let k = both _ _ (h .0) in
-    record { limited = k .0; numbered = eqb-true _ _ (k .1); counted = to-counts (waitsAt (run .mark)) (run .mark .count .evals) (run .body) (h .1) }
+    record { lawful = k .0; numbered = eqb-true _ _ (k .1); counted = to-counts (waitsAt (run .mark)) (run .mark .count .evals) (run .body) (h .1) }
 
 -- a run that has just been marked at a waiting point
-pub sound-at : (w : Waiting) (c : Count) (b : Body) → areWithinLimits (b .plan .settings) ≡ true → c .number ≡ c .evals % numbering → Counts w (c .evals) b
+pub sound-at : (w : Waiting) (c : Count) (b : Body) → isLawful (b .plan) ≡ true → c .number ≡ c .evals % numbering → Counts w (c .evals) b
     → isSound (record { mark = markAt w c; body = b }) ≡ true
 unfolding isSound
 sound-at w c b l n h = rw (l, eq-eqb _ _ n, read w c, from-counts w (c .evals) b h)
@@ -225,7 +231,7 @@ answers-small Ended e b s c = absurd c
 answers-small Unknown e b s c = absurd c
 
 pub evals-few : (run : Run) → isSound run ≡ true → run .mark .count .evals ≤ mostEvals
-evals-few run t = let f = to-facts run t in answers-small (waitsAt (run .mark)) (run .mark .count .evals) (run .body) (to-small (run .body .plan .settings) (f .limited)) (f .counted)
+evals-few run t = let f = to-facts run t in answers-small (waitsAt (run .mark)) (run .mark .count .evals) (run .body) (to-small (run .body .plan) (f .lawful)) (f .counted)
 
 pub evals-small : (run : Run) → isSound run ≡ true → run .mark .count .evals < ample
 evals-small run t = omega (arith, evals-few run t)
@@ -243,4 +249,4 @@ ready-at Ended e b s c = absurd c
 ready-at Unknown e b s c = absurd c
 
 pub ready : (run : Run) → isSound run ≡ true → Ready (waitsAt (run .mark)) (run .body)
-ready run t = let f = to-facts run t in ready-at (waitsAt (run .mark)) (run .mark .count .evals) (run .body) (to-small (run .body .plan .settings) (f .limited)) (f .counted)
+ready run t = let f = to-facts run t in ready-at (waitsAt (run .mark)) (run .mark .count .evals) (run .body) (to-small (run .body .plan) (f .lawful)) (f .counted)

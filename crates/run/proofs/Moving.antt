@@ -9,12 +9,12 @@ use lib.Dec.{eqb, ltb}
 use borrow.Author.Tests.{eqb-true, eqb-false, ltb-true, ltb-false}
 use Rattle.triple.specs.declared.Triple.{Triple}
 use Rattle.triple.specs.declared.State.{State}
+use Rattle.plan.specs.Limits.{wantsSamples}
 use Rattle.run.specs.declared.Body.{Body}
 use Rattle.run.specs.declared.waiting.Stage.{Stage}
 use Rattle.run.specs.declared.waiting.Stage.the-variants.{First, Second, Third, Fourth}
 use Rattle.run.specs.declared.waiting.Waiting.{Waiting}
 use Rattle.run.specs.declared.waiting.Waiting.the-variants.{Epoch, Forward, Backward, Survey, Pass, Step, Tail, TailSample}
-use Rattle.plan.specs.Limits.{wantsSamples}
 use Rattle.run.specs.Waiting.{stageNumber, isLast, stageAfter, nextPoint}
 use Rattle.run.specs.Sound.{rankOf}
 use Rattle.run.specs.Formulas.{startTrack, trackOn}

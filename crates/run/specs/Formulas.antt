@@ -13,8 +13,8 @@ use Rattle.startup.specs.declared.Places.{Places}
 use Rattle.startup.specs.Points.{timeAt, stateAt}
 use Rattle.startup.specs.Passes.{tiny, lastSums}
 use Rattle.plan.specs.declared.Plan.{Plan}
-use Rattle.run.specs.declared.Track.{Track}
 use Rattle.plan.specs.Plan.{decimal, directionOf}
+use Rattle.run.specs.declared.Track.{Track}
 
 -- "let rem = tf - t"
 unfoldable pub leftAt : Plan → Float → Float

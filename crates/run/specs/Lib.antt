@@ -1,5 +1,4 @@
 pub mod Limits
-pub mod Plan
 pub mod Formulas
 pub mod Waiting
 pub mod Questions

@@ -2,10 +2,10 @@
 -- caller cites this file.
 use Prim.Native.Nat.{ℕ, _≤_, _<_}
 use Rattle.plan.specs.declared.Settings.{Settings}
+use Rattle.plan.specs.Limits.{maxPasses, maxSteps}
 use Rattle.run.specs.declared.Body.{Body}
 use Rattle.run.specs.declared.waiting.Waiting.{Waiting}
 use Rattle.run.specs.declared.waiting.Waiting.the-variants.{Epoch, Forward, Backward, Survey, Pass, Step, Tail, TailSample, Ended, Unknown}
-use Rattle.plan.specs.Limits.{maxPasses, maxSteps}
 use Rattle.run.specs.Limits.{ample}
 
 -- the settings' limits, as numbers

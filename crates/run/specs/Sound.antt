@@ -1,17 +1,20 @@
 -- 01, answer 7: a run "has ended, or is made up: a setting over its limit, a pass, step or answer count outside what the counting below allows
--- at its waiting point, times and tolerances aside, or a question number that is not the answer count's remainder by 65,536".
+-- at its waiting point, times and tolerances aside, or a question number that is not the answer count's remainder by 65,536". W-202 adds a start, end
+-- or step that is not finite.
 -- e is the count of answers accepted before the open question: 1 at the epoch, 16 in each RK4 half, 8 in the survey, 8 in each startup pass.
 use Prim.Native.Nat.{ℕ, _+_, _-_, _*_, _%_}
 use mathlib.Core.Bool.{Bool, false, not, _&&_, _||_, cond}
 use lib.Dec.{eqb, ltb, leb}
 use Rattle.plan.specs.declared.Settings.{Settings}
+use Rattle.plan.specs.declared.Plan.{Plan}
+use Rattle.plan.specs.Limits.{wantsSamples}
+use Rattle.plan.specs.Lawful.{isLawful}
 use Rattle.run.specs.declared.Mark.{Mark}
 use Rattle.run.specs.declared.Run.{Run}
 use Rattle.run.specs.declared.Body.{Body}
 use Rattle.run.specs.declared.waiting.Stage.{Stage}
 use Rattle.run.specs.declared.waiting.Waiting.{Waiting}
 use Rattle.run.specs.declared.waiting.Waiting.the-variants.{Epoch, Forward, Backward, Survey, Pass, Step, Tail, TailSample, Ended, Unknown}
-use Rattle.plan.specs.Limits.{areWithinLimits, wantsSamples}
 use Rattle.run.specs.Limits.{numbering}
 use Rattle.run.specs.Waiting.{stageNumber, waitsAt}
 
@@ -69,16 +72,16 @@ hasCounts Unknown e b = false
 
 unfoldable pub isSound : Run → Bool
 isSound run =
-    areWithinLimits (run .body .plan .settings)
+    isLawful (run .body .plan)
     && eqb (run .mark .count .number) (run .mark .count .evals % numbering)
     && hasCounts (waitsAt (run .mark)) (run .mark .count .evals) (run .body)
 
--- a sound run waits at a step's end: by the parts that this takes, m its mark, s its settings, S startup passes and n steps
-unfoldable pub isOpenStep : Mark → Settings → (S n : ℕ) → Bool
-isOpenStep m s S n =
+-- a sound run waits at a step's end: by the parts that this takes, m its mark, p its plan, S startup passes and n steps
+unfoldable pub isOpenStep : Mark → Plan → (S n : ℕ) → Bool
+isOpenStep m p S n =
     eqb (m .at) 6
     && leb (m .stage) 3
-    && areWithinLimits s
+    && isLawful p
     && eqb (m .count .number) (m .count .evals % numbering)
-    && leb (m .index) (s .«max_corrector_iters»)
-    && stepCounts (m .index) (m .count .evals) s S n
+    && leb (m .index) (p .settings .«max_corrector_iters»)
+    && stepCounts (m .index) (m .count .evals) (p .settings) S n

@@ -8,11 +8,11 @@ use lib.Dec.{eqb}
 use lib.ListN.{length, getD}
 use borrow.Author.Tests.{eq-eqb, le-leb}
 use Rattle.triple.specs.declared.Triple.{Triple}
+use Rattle.plan.specs.Limits.{areWithinLimits, wantsSamples}
 use Rattle.run.specs.declared.Body.{Body}
 use Rattle.run.specs.declared.Run.{Run}
 use Rattle.run.specs.declared.waiting.Waiting.{Waiting}
 use Rattle.run.specs.declared.waiting.Waiting.the-variants.{Epoch, Forward, Backward, Survey, Pass, Step, Tail, TailSample, Ended, Unknown}
-use Rattle.plan.specs.Limits.{areWithinLimits, wantsSamples}
 use Rattle.run.specs.Limits.{numbering}
 use Rattle.run.specs.Waiting.{atNumber, indexNumber, stageAt, waitsAt}
 use Rattle.run.specs.Sound.{isIdle, passCounts, isStartedUp, stepCounts, hasCounts, isSound}

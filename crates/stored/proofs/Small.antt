@@ -5,14 +5,14 @@ use native.Mathlib.Omega.{arith}
 use borrow.Author.Tests.{leb-true}
 use mathlib.Core.Bool.{true, _&&_}
 use lib.Dec.{leb}
-use Rattle.run.specs.declared.Run.{Run}
 use Rattle.plan.specs.declared.Settings.{Settings}
+use Rattle.plan.specs.Limits.{maxPasses, maxSteps, maxFlag, areWithinLimits}
+use Rattle.run.specs.declared.Run.{Run}
 use Rattle.run.specs.declared.Body.{Body}
 use Rattle.run.specs.declared.waiting.Waiting.{Waiting}
 use Rattle.run.specs.declared.waiting.Waiting.the-variants.{Epoch, Forward, Backward, Survey, Pass, Step, Tail, TailSample, Ended, Unknown}
 use Rattle.run.specs.Waiting.{waitsAt}
 use Rattle.run.specs.Sound.{isSound}
-use Rattle.plan.specs.Limits.{maxPasses, maxSteps, maxFlag, areWithinLimits}
 use Rattle.run.specs.Ready.{Small}
 use Rattle.run.proofs.Counts.{both, Counts, to-small, to-facts, mostEvals, evals-few}
 

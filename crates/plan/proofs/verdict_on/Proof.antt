@@ -2,17 +2,17 @@
 use mathlib.Core.Path.{refl, sym, _∙_}
 use borrow.Author.Tests.{not-true, not-false}
 use borrow.Author.Needs.{needs}
-use Rattle.plan.proofs.Verdicts.{in-order}
+use Rattle.plan.proofs.Verdicts.{by-tests}
 use Rattle.plan.proofs.verdict_on.Statement.{statement}
 use Rattle.plan.proofs.verdict_on.Tie as tie
 
 returns : tie.Need-returns
-returns c = sym (in-order _ _ _ _ (sym (c .before .before .before .are-within-limits .ensures) ∙ not-true _ (c .if1 .taken)) refl refl)
+returns c = sym (by-tests _ _ _ _ (sym (c .before .before .before .are-within-limits .ensures) ∙ not-true _ (c .if1 .taken)) refl refl)
 
 returns-2 : tie.Need-returns-2
 returns-2 c =
     sym
-    (in-order _ _ _ _
+    (by-tests _ _ _ _
     (sym (c .before .before .before .before .are-within-limits .ensures) ∙ not-false _ (c .before .if1 .left))
     (sym (c .before .before .before .is-dated .ensures) ∙ not-true _ (c .if2 .taken))
     refl)
@@ -20,7 +20,7 @@ returns-2 c =
 returns-3 : tie.Need-returns-3
 returns-3 c =
     sym
-    (in-order _ _ _ _
+    (by-tests _ _ _ _
     (sym (c .before .before .before .before .before .are-within-limits .ensures) ∙ not-false _ (c .before .before .if1 .left))
     (sym (c .before .before .before .before .is-dated .ensures) ∙ not-false _ (c .before .if2 .left))
     (sym (c .before .before .before .is-too-near .ensures) ∙ c .if3 .taken))
@@ -28,7 +28,7 @@ returns-3 c =
 returns-4 : tie.Need-returns-4
 returns-4 c =
     sym
-    (in-order _ _ _ _
+    (by-tests _ _ _ _
     (sym (c .before .before .before .before .before .are-within-limits .ensures) ∙ not-false _ (c .before .before .if1 .left))
     (sym (c .before .before .before .before .is-dated .ensures) ∙ not-false _ (c .before .if2 .left))
     (sym (c .before .before .before .is-too-near .ensures) ∙ c .if3 .left))
