@@ -15,6 +15,7 @@ use Rattle.plan.specs.declared.Settings.{Settings}
 use Rattle.plan.specs.declared.Plan.{Plan}
 use Rattle.plan.specs.Limits.{wantsSamples}
 use Rattle.plan.specs.Plan.{planOf}
+use Rattle.plan.proofs.Verdicts.{verdict-is}
 use Rattle.rules.specs.Rules.{integrate}
 use Rattle.whole.specs.Whole.{IsWhole}
 use Rattle.whole.proofs.Integers.{plus, less}
@@ -23,9 +24,9 @@ use Rattle.counting.specs.Paths.{Always}
 use Rattle.counting.specs.Clockwork.{Fate, arrives, tails, fateOf, stepsOf, fewestStartups, Counted, gridTime, sampleTime, clockwork}
 use Rattle.counting.specs.Counting.{spanOf, stepsFor, fewestFor, whenFor, Bounds, OnTime, onTime, EndsOnTime}
 use Rattle.counting.proofs.Marching.{by-the-clock}
-use Rattle.counting.proofs.Spans.{Span, grid-on, far-enough}
+use Rattle.counting.proofs.Spans.{Span, whole-finite, grid-on, far-enough}
 use Rattle.counting.proofs.Fates.{Reach, steps-reach, fate-is}
-use Rattle.counting.proofs.Wholes.{up, down, up-time, down-time, up-end, down-end}
+use Rattle.counting.proofs.Wholes.{lawful, up, down, up-time, down-time, up-end, down-end}
 use Rattle.counting.proofs.Claims.{always-follows}
 use Rattle.counting.proofs.Tallies.{Same, same-tails, same-arrives, bound}
 
@@ -148,7 +149,7 @@ module _ {s : Settings} {t0 tf : Float} {z0 zf hz : ℤ} (b : Bounds s t0 tf z0 
     unfolding planOf
     paths r0 v0 =
         record {
-          accepted = far-enough w;
+          accepted = verdict-is (planOf s t0 tf) true false (lawful b (whole-finite (w .pace .is))) (far-enough w);
           always = ⊎-elim (λ (a : (fateOf p ≡ tails (K - 1)) × (S < K * H)). tails-on-time r0 v0 (a .0) (a .1))
               (λ (a : (u : Float) × (fateOf p ≡ arrives u K) × Along d u (P + S) Q × (S ≡ K * H)). arrives-on-time r0 v0 (a .0) (a .1) (a .2) (a .3)) (fate-is w K reach (b .enough));
         }

@@ -45,7 +45,7 @@ module _ {s : Settings} {t0 tf : Float} {z0 zf hz : ℤ} (b : Bounds s t0 tf z0 
   pub finishes-on-time : (cs : List Call) → Roomy (roomFor s (spanOf z0 zf) (natAbs hz)) cs → FinishesOnTime s t0 tf z0 zf hz r0 v0 cs
   unfolding settle integrate planOf
   finishes-on-time cs r =
-      let e = accepted-start s t0 tf r0 v0 (b .limits) (ends-on-time b r0 v0 .accepted) in
+      let e = accepted-start s t0 tf r0 v0 (ends-on-time b r0 v0 .accepted) in
       let f = follows-the-rules s t0 tf r0 v0 cs in
       let one = f .first ∙ ap (λ (x : Stop). x .said) e in
       let all = subst (Going (onTime s t0 tf z0 zf (natAbs hz)) (mostBefore s (spanOf z0 zf) (natAbs hz)) 0 0 0 cs)

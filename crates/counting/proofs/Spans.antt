@@ -8,15 +8,20 @@ use lib.Dec.{T, ltb, ltb→lt, nltb→le}
 use lib.IntN.{pos}
 use lib.Ieee.{Float, binary64, add, sub, div, lt, ofInt}
 use Rattle.triple.specs.Size.{absolute}
+use Rattle.triple.specs.Finite.{isFinite}
 use Rattle.startup.specs.Points.{offset, timeAt}
 use Rattle.plan.specs.declared.Plan.{Plan}
 use Rattle.plan.specs.Plan.{directionOf, isTooNear}
+use Rattle.plan.proofs.Dates.{has-value}
 use Rattle.run.specs.Formulas.{leftAt, isDue, isTail}
 use Rattle.rules.specs.Asked.{clock}
 use Rattle.whole.proofs.Exact.{Is, move, sub-whole, lt-whole, nought-whole}
 use Rattle.whole.proofs.Integers.{whole-ofInt}
 use Rattle.whole.proofs.Along.{Along, move-along, add-along, sub-along, mul-along, times-along, short-along, far-along, apart-along}
 use Rattle.counting.specs.Clockwork.{gridTime}
+
+pub whole-finite : {x : Float} {p q : ℕ} → Is x p q → isFinite x ≡ true
+whole-finite {x} X = has-value x (X .sign) (X .size) 1 (X .value)
 
 -- from t0 = P - Q to tf = P + S - Q in steps of H, all counted in the direction d
 pub record Span (d : Bool) (p : Plan) (P Q S H : ℕ) : Type 0 where

@@ -4,12 +4,12 @@ use mathlib.Core.Bool.{Bool, true, false, cond}
 use mathlib.Core.List.{[]}
 use lib.Ieee.{Float}
 use Rattle.triple.specs.declared.Triple.{Triple}
-use Rattle.refusals.specs.declared.Refusal.the-variants.{StepNotFinite, Setting}
+use Rattle.refusals.specs.declared.Refusal.the-variants.{StepNotFinite}
 use Rattle.plan.specs.declared.Settings.{Settings}
 use Rattle.plan.specs.declared.Verdict.{Verdict}
 use Rattle.plan.specs.declared.Verdict.the-variants.{Fine, Refuse}
-use Rattle.plan.specs.Limits.{areWithinLimits}
 use Rattle.plan.specs.Plan.{planOf, isTooNear}
+use Rattle.plan.specs.Lawful.{isLawful}
 use Rattle.plan.specs.Verdict.{verdictOn}
 use Rattle.plan.proofs.Verdicts.{verdict-is}
 use Rattle.rules.specs.Rules.{integrate}
@@ -20,10 +20,10 @@ module _ (s : Settings) (t0 tf : Float) (r0 v0 : Triple) where
   unfolding begin
   begin-by v e = ap (λ (u : Verdict). beginBy u (planOf s t0 tf) r0 v0) e
 
-  pub accepted-start : areWithinLimits s ≡ true → isTooNear (planOf s t0 tf) ≡ false → begin s t0 tf r0 v0 ≡ settle (integrate (planOf s t0 tf) r0 v0) 0 0 []
+  pub accepted-start : verdictOn (planOf s t0 tf) ≡ Fine → begin s t0 tf r0 v0 ≡ settle (integrate (planOf s t0 tf) r0 v0) 0 0 []
   unfolding planOf beginBy
-  accepted-start h k = begin-by Fine (verdict-is (planOf s t0 tf) true false h k)
+  accepted-start e = begin-by Fine e
 
-  pub near-start : areWithinLimits s ≡ true → isTooNear (planOf s t0 tf) ≡ true → begin s t0 tf r0 v0 .said ≡ refused 1
+  pub near-start : isLawful (planOf s t0 tf) ≡ true → isTooNear (planOf s t0 tf) ≡ true → begin s t0 tf r0 v0 .said ≡ refused 1
   unfolding planOf beginBy
   near-start h k = ap (λ (x : Stop). x .said) (begin-by (Refuse StepNotFinite) (verdict-is (planOf s t0 tf) true true h k))

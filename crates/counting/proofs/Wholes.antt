@@ -8,14 +8,17 @@ use lib.Signed.{leZ}
 use lib.Ieee.{Float, binary64, neg, le, ofInt}
 use borrow.Author.Tests.{leb-true, leb-false}
 use Rattle.triple.specs.Size.{absolute}
+use Rattle.triple.specs.Finite.{isFinite}
 use Rattle.whole.specs.Whole.{IsWhole}
 use Rattle.whole.proofs.Exact.{Is, move, neg-whole, one-whole}
 use Rattle.whole.proofs.Integers.{plus, less, Holds, Within, sum-parts, neg-parts, le-parts, le-int, abs-int, read, write}
 use Rattle.whole.proofs.Along.{Along, sent-along}
 use Rattle.plan.specs.declared.Settings.{Settings}
+use Rattle.plan.specs.Limits.{areWithinLimits}
 use Rattle.plan.specs.Plan.{directionOf, planOf}
+use Rattle.plan.specs.Lawful.{isDated, isLawful}
 use Rattle.counting.specs.Counting.{spanOf, Bounds}
-use Rattle.counting.proofs.Spans.{Span}
+use Rattle.counting.proofs.Spans.{Span, whole-finite}
 
 -- ---- sizes
 within : (n : ℕ) (z : ℤ) → natAbs z ≤ n → Within n z
@@ -69,8 +72,16 @@ module _ {s : Settings} {t0 tf : Float} {z0 zf hz : ℤ} (b : Bounds s t0 tf z0 
   end-holds : Holds tf zf
   end-holds = read zf (wider _ (2 ^ 53) zf (omega arith) (within _ zf (b .end-size))) (b .end-whole)
 
+  setting-holds : Holds (s .h) hz
+  setting-holds = read hz (wider _ (2 ^ 53) hz (omega arith) (within _ hz (b .step-size))) (b .step-whole)
+
   step-holds : Is (absolute (s .h)) (natAbs hz) 0
-  step-holds = abs-int hz (read hz (wider _ (2 ^ 53) hz (omega arith) (within _ hz (b .step-size))) (b .step-whole))
+  step-holds = abs-int hz setting-holds
+
+  -- whole numbers are finite
+  pub lawful : isFinite (planOf s t0 tf .h) ≡ true → isLawful (planOf s t0 tf) ≡ true
+  unfolding isLawful isDated planOf
+  lawful f = rw (b .limits, whole-finite start-holds, whole-finite end-holds, whole-finite setting-holds, f)
 
   ordered : le t0 tf ≡ leZ z0 zf
   ordered = le-int z0 zf start-holds end-holds

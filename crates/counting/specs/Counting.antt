@@ -9,8 +9,10 @@ use lib.Signed.{leZ}
 use lib.Ieee.{Float}
 use Rattle.triple.specs.declared.Triple.{Triple}
 use Rattle.plan.specs.declared.Settings.{Settings}
+use Rattle.plan.specs.declared.Verdict.the-variants.{Fine}
 use Rattle.plan.specs.Limits.{areWithinLimits, wantsSamples}
-use Rattle.plan.specs.Plan.{planOf, isTooNear}
+use Rattle.plan.specs.Plan.{planOf}
+use Rattle.plan.specs.Verdict.{verdictOn}
 use Rattle.rules.specs.Rules.{integrate}
 use Rattle.whole.specs.Whole.{IsWhole}
 use Rattle.counting.specs.Paths.{Claims, Always}
@@ -105,5 +107,5 @@ onTime s t0 tf z0 zf step =
 
 -- a start within the bounds is accepted, and every path of its tree ends on time
 pub record EndsOnTime (s : Settings) (t0 tf : Float) (z0 zf hz : ℤ) (r0 v0 : Triple) : Type 0 where
-  pub accepted : isTooNear (planOf s t0 tf) ≡ false
+  pub accepted : verdictOn (planOf s t0 tf) ≡ Fine
   pub always : Always (onTime s t0 tf z0 zf (natAbs hz)) 0 0 (integrate (planOf s t0 tf) r0 v0)

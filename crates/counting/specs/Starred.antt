@@ -1,19 +1,20 @@
 -- 01, "Examples at the edges": those marked *, as one table. The proof is `starred` in proofs/Starred.antt.
 use mathlib.Core.Path.{_≡_}
 use Prim.Native.Nat.{ℕ, zero, suc}
-use mathlib.Core.Bool.{Bool, true, false}
+use mathlib.Core.Bool.{true, false}
 use mathlib.Core.List.{List, [], _∷_}
 use lib.IntN.{ℤ, pos, negsuc}
 use lib.ListN.{length}
-use lib.Ieee.{Float, nan, inf, fin, binary64, ofInt, eq, isNan}
+use lib.Ieee.{Float, nan, fin, binary64, ofInt, eq}
 use Rattle.triple.specs.declared.Triple.{Triple}
 use Rattle.triple.specs.declared.Sample.{Sample}
 use Rattle.triple.specs.Arithmetic.{nought}
 use Rattle.quintic.specs.declared.Between.{Between}
 use Rattle.quintic.specs.Quintic.{quinticHermite}
 use Rattle.plan.specs.declared.Settings.{Settings}
-use Rattle.plan.specs.Limits.{maxSteps, areWithinLimits}
+use Rattle.plan.specs.Limits.{maxSteps}
 use Rattle.plan.specs.Plan.{planOf}
+use Rattle.plan.specs.Lawful.{isLawful}
 use Rattle.rules.specs.Rules.{integrate}
 use Rattle.rules.specs.Walk.{refused, settle, begin}
 use Rattle.counting.specs.Paths.{Claims, Always}
@@ -111,7 +112,8 @@ starredRows =
     ∷ row 0 (whole 8) (pos 1) 7 0 (exceeds-at 55)
     ∷ row 0 (whole 8) (pos 1) 4 0 (exceeds-at 49)
     ∷ row 0 (whole 8) (pos 1) 0 0 (exceeds-at 49)
-    ∷ row 0 nan (pos 1) maxSteps 0 (finishes (ofInt binary64 (negsuc 3)) 4 49 [])
+    -- 01 has this row as "finished after startup"; W-202: "the NaN example of 01 becomes this refusal"
+    ∷ row 0 nan (pos 1) maxSteps 0 (no-run 12)
     -- "Quintic, 0 to 1, one component, r v a = 0 0 0 and 1 5 20, at 0.5: 0.03125 and 0.3125": 2 ^ -1, 2 ^ -5 and 5 * 2 ^ -4
     ∷ record {
       example = curve (sample 0 0 0 0) (sample 1 1 5 20) (fin false 1 (negsuc 0));
@@ -127,17 +129,9 @@ AllMeet r0 v0 (r ∷ rs) = Meets r0 v0 (r .example) (r .expected) × AllMeet r0 
 abbrev pub Starred : Type 0
 Starred = (r0 v0 : Triple) → AllMeet r0 v0 starredRows
 
--- ---- "t0 = tf, and h 0: refusal 1": the table has one row of each; these say it of many starts
-unfoldable pub isFinite : Float → Bool
-isFinite nan = false
-isFinite (inf s) = false
-isFinite (fin s m e) = true
-
--- a start that is the end too, where it is finite and h is no NaN: elsewhere span/h is NaN, which is not below 8
+-- ---- "t0 = tf, and h 0: refusal 1": the table has one row of each; these say it of every start that passes 5 and 12
 abbrev pub NoSpan : Type 0
-NoSpan =
-    (s : Settings) (t0 : Float) (r0 v0 : Triple) → areWithinLimits s ≡ true → isFinite t0 ≡ true → isNan (s .h) ≡ false
-    → begin s t0 t0 r0 v0 .said ≡ refused 1
+NoSpan = (s : Settings) (t0 tf : Float) (r0 v0 : Triple) → isLawful (planOf s t0 tf) ≡ true → eq t0 tf ≡ true → begin s t0 tf r0 v0 .said ≡ refused 1
 
 abbrev pub NoStep : Type 0
-NoStep = (s : Settings) (t0 tf : Float) (r0 v0 : Triple) → areWithinLimits s ≡ true → eq (s .h) nought ≡ true → begin s t0 tf r0 v0 .said ≡ refused 1
+NoStep = (s : Settings) (t0 tf : Float) (r0 v0 : Triple) → isLawful (planOf s t0 tf) ≡ true → eq (s .h) nought ≡ true → begin s t0 tf r0 v0 .said ≡ refused 1
