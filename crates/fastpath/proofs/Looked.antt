@@ -16,11 +16,11 @@ use Rattle.fastpath.specs.declared.Look.{Look}
 use Rattle.fastpath.specs.Looking.{reached, isMade, lookedAway, lookedAgain, lookedOn, lookedAt}
 
 module _ (m : Mark) (p : Plan) (k : Track) (t : Trial) (S number : ℕ) (a : Triple) (room : ℕ) (l : Look) where
-  pub not-open : isOpenStep m (p .settings) S (k .steps) ≡ false → l ≡ lookedAway m k t → l ≡ lookedAt m p k t S number a room
+  pub not-open : isOpenStep m p S (k .steps) ≡ false → l ≡ lookedAway m k t → l ≡ lookedAt m p k t S number a room
   unfolding lookedAt
   not-open e h = rw e h
 
-  module _ (e : isOpenStep m (p .settings) S (k .steps) ≡ true) where
+  module _ (e : isOpenStep m p S (k .steps) ≡ true) where
     pub not-asked : eqb (m .count .number) number ≡ false → l ≡ lookedAway m k t → l ≡ lookedAt m p k t S number a room
     unfolding lookedAt
     not-asked f h = rw (e, f) h

@@ -37,7 +37,7 @@ module _ (run : Run) (number : ℕ) (a : Triple) (out : List Float) where
   c = nextCount (run .mark .count)
 
   abbrev isOpen : Bool
-  isOpen = isOpenStep (run .mark) (p .settings) (run .body .«startup_iters») (k .steps)
+  isOpen = isOpenStep (run .mark) p (run .body .«startup_iters») (k .steps)
 
   abbrev isAsked : Bool
   isAsked = eqb (run .mark .count .number) number

@@ -52,6 +52,6 @@ lookedOn p c k y room =
 unfoldable pub lookedAt : Mark → Plan → Track → Trial → (S number : ℕ) → Triple → (room : ℕ) → Look
 lookedAt m p k t S number a room =
     let y = reached (m .index) p (k .sums) t a in
-    cond (isOpenStep m (p .settings) S (k .steps) && eqb (m .count .number) number)
+    cond (isOpenStep m p S (k .steps) && eqb (m .count .number) number)
     (cond (isMade (m .index) p (k .sums) t a) (lookedOn p (nextCount (m .count)) k y room) (lookedAgain (m .index) (nextCount (m .count)) k y))
     (lookedAway m k t)

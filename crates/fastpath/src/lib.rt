@@ -58,7 +58,7 @@ pub fn look_at(
 ) -> Look
     ensures { λ l. ⌜ l ≡ lookedAt mark plan track trial passes number a room ⌝ }
 {
-    if !sound::is_open_step(mark, plan.settings, passes, track.steps) {
+    if !sound::is_open_step(mark, plan, passes, track.steps) {
         return judging::look_away(mark, track, trial);
     }
     if mark.count.number != number {

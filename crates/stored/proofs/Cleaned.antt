@@ -8,7 +8,9 @@ use lib.Dec.{eqb}
 use lib.ListN.{length, getD}
 use borrow.Author.Tests.{eq-eqb, le-leb}
 use Rattle.triple.specs.declared.Triple.{Triple}
-use Rattle.plan.specs.Limits.{areWithinLimits, wantsSamples}
+use Rattle.plan.specs.declared.Plan.{Plan}
+use Rattle.plan.specs.Limits.{wantsSamples}
+use Rattle.plan.specs.Lawful.{isLawful}
 use Rattle.run.specs.declared.Body.{Body}
 use Rattle.run.specs.declared.Run.{Run}
 use Rattle.run.specs.declared.waiting.Waiting.{Waiting}
@@ -23,16 +25,16 @@ use Rattle.blocks.specs.Blocks.{written}
 use Rattle.blocks.specs.Trips.{Below}
 use Rattle.blocks.proofs.Filled.{length-row, same-row}
 use Rattle.blocks.proofs.Trips.{written-is-read}
-use Rattle.stored.specs.Layout.{line, usesOf, triplesOf}
+use Rattle.stored.specs.Layout.{line, usesOf, tripleUsed, used, triplesOf, component, floatNo}
 use Rattle.stored.specs.Content.{countsIn, contentWord, contentFrom, contentOfRun}
 use Rattle.stored.specs.Taken.{tripleAt, triplesIn, countsAt, bodyFrom, runOf, isKnown, unusedIsZero, isStoredRun}
 use Rattle.stored.specs.Stored.{storedIn, takenUp, judged, loaded}
-use Rattle.stored.specs.Trips.{Floats, keptTriple, cleaned, StoredIsLoaded}
+use Rattle.stored.specs.Trips.{Floats, keptFloat, keptTriple, cleaned, StoredIsLoaded}
 use Rattle.stored.proofs.Small.{Modest, modest, flag-small}
 use Rattle.stored.proofs.Words.{head-at, count-at, zero-word, float-is, small-words, all-zero}
 use Rattle.stored.proofs.Heads.{headFor, Fits, head-is, head-fits}
 
--- ---- answer 7 looks at the counts alone
+-- ---- answer 7 looks at the counts
 counts-same : (w : Waiting) (e : ℕ) (b : Body) (f : List Triple)
     → hasCounts w e (bodyFrom f (b .plan .settings .«max_corrector_iters» ∷ b .plan .settings .«max_startup_iters» ∷ b .plan .settings .«max_steps» ∷ b .«startup_iters» ∷ b .track .steps ∷ e ∷ []) (b .plan .settings .samples)) ≡ hasCounts w e b
 unfolding hasCounts isIdle passCounts isStartedUp stepCounts wantsSamples bodyFrom
@@ -47,9 +49,19 @@ counts-same TailSample e b f = refl
 counts-same Ended e b f = refl
 counts-same Unknown e b f = refl
 
+-- and at the plan, which every waiting point uses whole
+plan-same : (run : Run) → cleaned run .body .plan ≡ run .body .plan
+unfolding cleaned bodyFrom row keptTriple keptFloat used tripleUsed triplesOf floatNo component countsIn
+plan-same run = refl
+
 pub sound-same : (run : Run) → isSound (cleaned run) ≡ isSound run
-unfolding isSound cleaned areWithinLimits countsIn bodyFrom
-sound-same run = rw (read (waitsAt (run .mark)) (run .mark .count)) (unfold bodyFrom in ap (λ (x : Bool). areWithinLimits (run .body .plan .settings) && eqb (run .mark .count .number) (run .mark .count .evals % numbering) && x) (counts-same (waitsAt (run .mark)) (run .mark .count .evals) (run .body) (row (keptTriple (usesOf (waitsAt (run .mark))) (triplesOf (run .body))) 41)))
+unfolding isSound cleaned countsIn bodyFrom
+sound-same run =
+    let w = waitsAt (run .mark) in
+    let numbered = eqb (run .mark .count .number) (run .mark .count .evals % numbering) in
+    let z : isSound (cleaned run) ≡ (isLawful (cleaned run .body .plan) && numbered && hasCounts w (run .mark .count .evals) (run .body)) =
+    rw (read w (run .mark .count)) (unfold bodyFrom in ap (λ (x : Bool). isLawful (cleaned run .body .plan) && numbered && x) (counts-same (waitsAt (run .mark)) (run .mark .count .evals) (run .body) (row (keptTriple (usesOf (waitsAt (run .mark))) (triplesOf (run .body))) 41))) in
+    z ∙ ap (λ (p : Plan). isLawful p && numbered && hasCounts w (run .mark .count .evals) (run .body)) (plan-same run)
 
 -- ---- the round trip
 index-kept : (w : Waiting) → indexNumber w ≡ cond (usesOf w .index) (indexNumber w) 0

@@ -96,4 +96,4 @@ head-is run samples t =
     decoded (run .mark .at) (run .mark .index) (run .mark .stage) (run .mark .count) samples (no-unknown _ _ _ (to-facts run t .counted))
 
 pub head-fits : (run : Run) → isSound run ≡ true → Fits (waitsAt (run .mark))
-head-fits run t = let f = to-facts run t in fitting _ _ _ (to-small (run .body .plan .settings) (f .limited)) (f .counted)
+head-fits run t = let f = to-facts run t in fitting _ _ _ (to-small (run .body .plan) (f .lawful)) (f .counted)

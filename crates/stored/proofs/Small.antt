@@ -14,7 +14,7 @@ use Rattle.run.specs.declared.waiting.Waiting.the-variants.{Epoch, Forward, Bac
 use Rattle.run.specs.Waiting.{waitsAt}
 use Rattle.run.specs.Sound.{isSound}
 use Rattle.run.specs.Ready.{Small}
-use Rattle.run.proofs.Counts.{both, Counts, to-small, to-facts, mostEvals, evals-few}
+use Rattle.run.proofs.Counts.{both, Counts, within, to-small, to-facts, mostEvals, evals-few}
 
 -- every count is below this
 pub record Modest (run : Run) : Type 0 where
@@ -40,7 +40,7 @@ passes-few Unknown e b s c = absurd c
 pub modest : (run : Run) → isSound run ≡ true → Modest run
 modest run t =
     let f = to-facts run t in
-    let s = to-small (run .body .plan .settings) (f .limited) in
+    let s = to-small (run .body .plan) (f .lawful) in
     let p = passes-few (waitsAt (run .mark)) (run .mark .count .evals) (run .body) s (f .counted) in
     record { correctors = s .passes; startups = s .startups; most = s .steps; passes = p .0; steps = p .1; evals = evals-few run t }
 
@@ -53,4 +53,4 @@ flag-within s t =
     leb-true _ _ (both passes (leb (s .samples) maxFlag) (h .0) .1)
 
 pub flag-small : (run : Run) → isSound run ≡ true → run .body .plan .settings .samples ≤ maxFlag
-flag-small run t = flag-within (run .body .plan .settings) (to-facts run t .limited)
+flag-small run t = flag-within (run .body .plan .settings) (within (run .body .plan) (to-facts run t .lawful))
