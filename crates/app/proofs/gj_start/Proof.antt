@@ -41,14 +41,12 @@ use denote.Triple.Clauses.{ensured, lasts}
 use denote.Triple.Table.{entered, cited}
 use denote.Triple.Walked.{says, Stays, stay-ref, stay-none, walkOf, AllGo, goes-ref, goes-none, Walks, ends-at, walked, walk-meets}
 use denote.Exit.{yes}
-use Rattle.plan.specs.declared.Settings.{Settings}
-use Rattle.plan.proofs.Settings as Settings′
-use Rattle.plan.proofs.Settings.Laws as Settings″
 use Rattle.app.specs.Reply.{repliedOf}
 use Rattle.gauss_jackson.specs.Answers.{started}
 use denote.Struct.Laws as LL
 use Rattle.app.specs.declared.Replied.{Replied}
 use Rattle.run.specs.declared.Run.{Run}
+use Rattle.plan.specs.declared.Settings.{Settings}
 use Rattle.triple.specs.declared.Triple.{Triple}
 use Rattle.app.proofs.Replied as Replied′
 use Rattle.app.proofs.Replied.Laws as Replied″
@@ -56,6 +54,8 @@ use Rattle.app.proofs.Reply as Reply′
 use Rattle.app.proofs.Reply.Laws as Reply″
 use Rattle.run.proofs.Run as Run′
 use Rattle.run.proofs.Run.Laws as Run″
+use Rattle.plan.proofs.Settings as Settings′
+use Rattle.plan.proofs.Settings.Laws as Settings″
 use Rattle.triple.proofs.Triple as Triple′
 use Rattle.triple.proofs.Triple.Laws as Triple″
 use Rattle.app.proofs.replies.started_by as g-started-by

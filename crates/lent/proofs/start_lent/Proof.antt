@@ -41,14 +41,12 @@ use denote.Triple.Clauses.{ensured, lasts}
 use denote.Triple.Table.{entered, cited}
 use denote.Triple.Walked.{says, Stays, stay-ref, stay-none, walkOf, AllGo, goes-ref, goes-none, Walks, ends-at, walked, walk-meets}
 use denote.Exit.{yes}
-use Rattle.plan.specs.declared.Settings.{Settings}
-use Rattle.plan.proofs.Settings as Settings′
-use Rattle.plan.proofs.Settings.Laws as Settings″
 use Rattle.gauss_jackson.specs.Answers.{started}
 use denote.Struct.Laws as LL
 use denote.Enum.Laws as EL
 use Rattle.gauss_jackson.specs.declared.Answered.{Answered}
 use Rattle.run.specs.declared.Run.{Run}
+use Rattle.plan.specs.declared.Settings.{Settings}
 use Rattle.triple.specs.declared.Triple.{Triple}
 use Rattle.gauss_jackson.proofs.Answered as Answered′
 use Rattle.gauss_jackson.proofs.Answered.Laws as Answered″
@@ -56,6 +54,8 @@ use Rattle.gauss_jackson.proofs.Outcome as Outcome′
 use Rattle.gauss_jackson.proofs.Outcome.Laws as Outcome″
 use Rattle.run.proofs.Run as Run′
 use Rattle.run.proofs.Run.Laws as Run″
+use Rattle.plan.proofs.Settings as Settings′
+use Rattle.plan.proofs.Settings.Laws as Settings″
 use Rattle.triple.proofs.Triple as Triple′
 use Rattle.triple.proofs.Triple.Laws as Triple″
 use Rattle.gauss_jackson.proofs.start as g-start

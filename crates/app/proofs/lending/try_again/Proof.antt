@@ -42,8 +42,6 @@ use denote.Triple.Clauses.{ensured, lasts}
 use denote.Triple.Table.{entered, cited}
 use denote.Triple.Walked.{says, Stays, stay-ref, stay-none, gave-slice, walkOf, AllGo, goes-ref, goes-none, goes-gave-slice, Walks, ends-at, walked, walk-meets}
 use denote.Exit.{yes}
-use Rattle.plan.proofs.Plan as Plan′
-use Rattle.plan.proofs.Plan.Laws as Plan″
 use Rattle.app.specs.Reply.{triedReply, triedRun}
 use denote.Struct.Laws as LL
 use Rattle.fastpath.specs.declared.Look.{Look}
@@ -57,6 +55,8 @@ use Rattle.run.proofs.Mark as Mark′
 use Rattle.run.proofs.Mark.Laws as Mark″
 use Rattle.startup.proofs.Places as Places′
 use Rattle.startup.proofs.Places.Laws as Places″
+use Rattle.plan.proofs.Plan as Plan′
+use Rattle.plan.proofs.Plan.Laws as Plan″
 use Rattle.app.proofs.Reply as Reply′
 use Rattle.app.proofs.Reply.Laws as Reply″
 use Rattle.run.proofs.Run as Run′
