@@ -158,7 +158,7 @@ GJ_AT(gj_reply, number, 86);
 /* The module's values: one-minute steps, no samples. */
 gj_settings gj_default_settings(void);
 
-/* A start: question 0, or refusal 5, 12 or 1, judged in this order. `run` is the caller's and need not be set before; it is written whole. */
+/* A start: question 0, or refusal 5, 12 or 1, in this order. `run` is the caller's and need not be set before; it is written whole. */
 gj_reply gj_start(gj_run *run, gj_settings settings, double t0, double tf, gj_triple r0, gj_triple v0);
 
 /* The answer to question `number`: the acceleration `a` at the question's time, position and velocity. The run moves on

@@ -89,10 +89,10 @@ static void dates_that_are_none(void) {
         dates[i % 3] = blanks[i / 3 % 3];
         s.h = dates[2];
         memset(&run, 0xA5, sizeof run);
-        check(refused(gj_start(&run, s, dates[0], dates[1], R0, V0), GJ_BLANK_DATE), "a NaN or an infinity for a date: refusal 12, before 1");
+        check(refused(gj_start(&run, s, dates[0], dates[1], R0, V0), GJ_BLANK_DATE), "a blank date: refusal 12, before 1");
         check(refused(gj_open_question(&run), GJ_NO_QUESTION), "a blank date leaves no run");
         s.max_steps = GJ_MAX_STEPS + 1;
-        check(refused(gj_start(&run, s, dates[0], dates[1], R0, V0), GJ_SETTING), "a setting over its limit with such a date: refusal 5, before 12");
+        check(refused(gj_start(&run, s, dates[0], dates[1], R0, V0), GJ_SETTING), "such a date and a setting over its limit: 5, before 12");
     }
 }
 
