@@ -37,7 +37,6 @@
  * What surprises:
  *   - The force is asked at times outside the span, and not in order: the startup asks from t0-4h to t0+4h (backward too: up to t0+4h, h
  *     being the step's size), on, back and across again. Drag tables and ephemerides must reach four steps to the other side of t0.
- *   - A NaN in t0, tf or the step is not refused yet: the run is told as finished after the startup's four steps. Test for it first.
  *   - A step that is too long is not noticed: the run ends as told, and the orbit is wrong. README has a table.
  */
 #ifndef GAUSS_JACKSON_H
@@ -53,8 +52,9 @@
 
 /* The version, and the number of what is laid down between header and library: it goes up when a size, a place or a call changes. Each is
  * set here alone. Calls that are added change nothing for programs built before, so the number stays; a program that uses one does not
- * link with an older library: "undefined reference to gj_store". */
-#define GJ_VERSION "0.3.0"
+ * link with an older library: "undefined reference to gj_store". A refusal that is added is a number for which an older header has no name:
+ * 12, from 0.4.0 on. */
+#define GJ_VERSION "0.4.0"
 #define GJ_ABI 1
 
 #ifdef __cplusplus
@@ -87,7 +87,8 @@ enum {
     GJ_SHAPE = 9,                 /* interpolation: samples not in tens, or output below 6 numbers a time; untouched */
     GJ_STORED_SHAPE = 10,         /* storing: the buffer has not GJ_STORED_SIZE bytes; untouched. Loading: not GJ_STORED_SIZE bytes, or a
                                      block's number or check is wrong: cut short, damaged, another file; the run is as it was */
-    GJ_STORED_CONTENT = 11        /* loading: whole blocks, but another form number, or what no run is; the run is as it was */
+    GJ_STORED_CONTENT = 11,       /* loading: whole blocks, but another form number, or what no run is; the run is as it was */
+    GJ_BLANK_DATE = 12            /* start: t0, tf or the step is a NaN or an infinity; no run, no sample */
 };
 
 /* Limits of the settings. */
@@ -138,7 +139,7 @@ typedef struct gj_reply {
     uint64_t steps;          /* steps made */
     uint64_t startup_iters;  /* startup passes made */
     uint32_t kind;           /* GJ_ASK, GJ_DONE or GJ_REFUSED */
-    uint16_t refusal;        /* 1 to 11, by the names above */
+    uint16_t refusal;        /* 1 to 12, by the names above */
     uint16_t number;         /* the question's number: answer under it; after 65,535 comes 0 */
 } gj_reply;
 GJ_SIZE(gj_reply, 88);
@@ -157,7 +158,7 @@ GJ_AT(gj_reply, number, 86);
 /* The module's values: one-minute steps, no samples. */
 gj_settings gj_default_settings(void);
 
-/* A start: question 0, or refusal 5 or 1. `run` is the caller's and need not be set before; it is written whole. */
+/* A start: question 0, or refusal 5, 12 or 1, in this order. `run` is the caller's and need not be set before; it is written whole. */
 gj_reply gj_start(gj_run *run, gj_settings settings, double t0, double tf, gj_triple r0, gj_triple v0);
 
 /* The answer to question `number`: the acceleration `a` at the question's time, position and velocity. The run moves on

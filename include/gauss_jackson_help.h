@@ -35,6 +35,7 @@ static inline const char *gj_refusal_text(unsigned refusal) {
     case GJ_SHAPE: return "the samples are not in tens, or the output has fewer than six numbers a time";
     case GJ_STORED_SHAPE: return "there are not 2,048 bytes, or a block's number or check is wrong: cut short, damaged, or no stored run";
     case GJ_STORED_CONTENT: return "the blocks are whole, but hold no run: another form number, or what no run has";
+    case GJ_BLANK_DATE: return "the start, the end or the step is not a finite number; look at the dates that went in";
     default: return "no refusal has this number";
     }
 }

@@ -3,7 +3,8 @@
  *
  * It is plain data, without pointers: it may be copied, kept and answered again. A copy is a line of answers of its own. For a file take
  * gj_store: these bytes are of one GJ_ABI, and damage in them might go unnoticed.
- * It may not be changed by hand: what does not follow the counting is refused as made up (7), the rest is taken as it is.
+ * It may not be changed by hand. What does not follow the counting is refused as made up (7), and so is a NaN or an infinity in the plan's
+ * t0, tf, h or settings.h; the rest is taken as it is.
  */
 #ifndef GAUSS_JACKSON_RUN_H
 #define GAUSS_JACKSON_RUN_H

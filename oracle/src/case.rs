@@ -96,6 +96,11 @@ impl Case {
         )
     }
 
+    /// Whether the start, the end or the step is a NaN or an infinity: W-202's refusal 12, which the module does not know.
+    pub fn has_blank_date(&self) -> bool {
+        ![self.t0, self.tf, self.h].iter().all(|x| x.is_finite())
+    }
+
     pub fn settings(&self) -> GJSettings<f64> {
         GJSettings {
             h: self.h,

@@ -42,6 +42,15 @@ fn clock(c: &Case, bound: usize) -> usize {
 pub const SPECIAL: [f64; 8] = [f64::NAN, f64::INFINITY, f64::NEG_INFINITY, 0.0, -0.0, 5e-324, f64::MAX, -1.0];
 pub const TOLERANCES: [f64; 12] = [0.0, 0.0, -1.0, -0.0, 1e-13, 1e-13, 1e-9, 1e-3, 1.0, 1e30, f64::INFINITY, f64::NAN];
 
+/// Processors leave other signs on a NaN that they work out: by one pattern a seed gives the same cases everywhere.
+pub fn one_nan(x: f64) -> f64 {
+    if x.is_nan() {
+        f64::NAN
+    } else {
+        x
+    }
+}
+
 fn step(rng: &mut Random) -> f64 {
     let h = match rng.below(20) {
         0..=7 => (1 + rng.below(100)) as f64,
@@ -116,8 +125,8 @@ fn parameters(rng: &mut Random, force: Force) -> [f64; 4] {
 
 pub fn case(rng: &mut Random, name: String) -> Case {
     let h = step(rng);
-    let t0 = begin(rng, h);
-    let tf = finish(rng, t0, h);
+    let t0 = one_nan(begin(rng, h));
+    let tf = one_nan(finish(rng, t0, h));
     let force = rng.pick(&[Force::Lin, Force::Lin, Force::Cub, Force::Lcg, Force::Mix]);
     let mut c = Case {
         name,
@@ -136,20 +145,50 @@ pub fn case(rng: &mut Random, name: String) -> Case {
         p: parameters(rng, force),
         away: 0,
     };
-    // A clock that sticks, or crawls, would fill the transcript: such a run gets a small limit.
-    if clock(&c, 100) == 100 {
-        c.max_steps = c.max_steps.min(4 + rng.below(12) as usize);
-    }
+    limit_steps(&mut c, rng);
     c
 }
 
-/// So many cases from a seed.
-pub fn drawn(seed: u64, count: u64) -> impl Iterator<Item = Case> {
-    let mut rng = Random(seed);
-    (0..count).map(move |n| case(&mut rng, format!("r{seed}-{n}")))
+/// A clock that sticks, or crawls, would fill the transcript: such a run gets a small limit.
+fn limit_steps(c: &mut Case, rng: &mut Random) {
+    if clock(c, 100) == 100 {
+        c.max_steps = c.max_steps.min(4 + rng.below(12) as usize);
+    }
 }
 
-/// The same, one in four to be put away on its way. That has a generator of its own, so that a seed gives the cases that it always gave.
+/// Finite dates near the largest number: spans, clocks and the startup's times overflow.
+fn far_apart(rng: &mut Random, c: &mut Case) {
+    let date = |rng: &mut Random| match rng.below(4) {
+        0 => f64::MAX,
+        1 => 1.7e308,
+        2 => rng.unit().abs() * 1.7e308,
+        _ => rng.unit() * 10f64.powi(300 + rng.below(9) as i32),
+    };
+    (c.t0, c.tf) = (-date(rng), date(rng));
+    c.h = match rng.below(4) {
+        0 => f64::MAX / (1 + rng.below(40)) as f64,
+        1 => rng.unit() * 1.7e308,
+        _ => rng.unit() * 10f64.powi(305 + rng.below(4) as i32),
+    };
+    if rng.once_in(2) {
+        (c.t0, c.tf) = (c.tf, c.t0);
+    }
+    limit_steps(c, rng);
+}
+
+/// So many cases from a seed; one in 32 far apart. That has a generator of its own, so that a seed gives the others as it always did.
+pub fn drawn(seed: u64, count: u64) -> impl Iterator<Item = Case> {
+    let (mut rng, mut far) = (Random(seed), Random(seed ^ 0xfa2));
+    (0..count).map(move |n| {
+        let mut c = case(&mut rng, format!("r{seed}-{n}"));
+        if far.once_in(32) {
+            far_apart(&mut far, &mut c);
+        }
+        c
+    })
+}
+
+/// The same, one in four to be put away on its way, by a generator of its own too.
 pub fn random(seed: u64, count: u64, out: &mut impl Write) -> io::Result<()> {
     let mut rng = Random(!seed);
     for mut c in drawn(seed, count) {

@@ -2,18 +2,19 @@
 //! The stored list of cases: 01's edges, corners, grids, and a few random ones.
 use crate::case::Case;
 use crate::cases::{drawn, plain, SPECIAL, TOLERANCES};
+use crate::dates::{blanks, far_apart};
 use crate::force::Force;
 use crate::tables;
 use std::io::{self, Write};
 
 /// A case like `plain` but for what is said.
-fn like(name: &str, change: impl FnOnce(&mut Case)) -> Case {
+pub fn like(name: &str, change: impl FnOnce(&mut Case)) -> Case {
     let mut c = plain(name);
     change(&mut c);
     c
 }
 
-fn times(name: &str, t0: f64, tf: f64, h: f64) -> Case {
+pub fn times(name: &str, t0: f64, tf: f64, h: f64) -> Case {
     like(name, |c| (c.t0, c.tf, c.h) = (t0, tf, h))
 }
 
@@ -171,7 +172,7 @@ fn asked(name: &str) -> Vec<String> {
 pub fn print(out: &mut impl Write) -> io::Result<()> {
     writeln!(out, "# Made by: oracle list. The expected output is what the module says: oracle run.")?;
     let nothing = tables::after_case(&[0.0]);
-    let of_cases = edges().into_iter().chain(corners()).chain(grids());
+    let of_cases = edges().into_iter().chain(corners()).chain(blanks()).chain(far_apart()).chain(grids());
     let cases = of_cases.flat_map(|c| std::iter::once(c.line()).chain(asked(&c.name)));
     for line in nothing.into_iter().chain(cases).chain(tables::list()) {
         writeln!(out, "{line}")?;

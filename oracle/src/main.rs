@@ -9,6 +9,7 @@
 //!   oracle orbit            the orbit of examples/, by its bits
 mod case;
 mod cases;
+mod dates;
 mod examples;
 mod force;
 mod list;

@@ -1,6 +1,6 @@
 // SPDX-License-Identifier: MIT OR Apache-2.0
 //! Tables of samples, and times asked between them: random ones from a seed, and those of the stored list.
-use crate::cases::{component, SPECIAL};
+use crate::cases::{component, one_nan, SPECIAL};
 use crate::random::Random;
 use std::io::{self, Write};
 
@@ -8,7 +8,7 @@ const NAN: f64 = f64::NAN;
 const INF: f64 = f64::INFINITY;
 
 fn bits(xs: &[f64]) -> String {
-    xs.iter().map(|x| format!(" {:016x}", x.to_bits())).collect()
+    xs.iter().map(|x| format!(" {:016x}", one_nan(*x).to_bits())).collect()
 }
 
 /// A table whose samples at `times` are what `at` gives for each number from 0.

@@ -11,8 +11,10 @@
 //!   batch t..                several
 //!
 //! What comes back: `case NAME`, `ask` with number, t, r, v for each question, `sample` with number and ten floats, `done` with t, r, v, evals,
-//! steps, startup_iters, or `refused` with 01's number; `interp` with r and v; `bad line N` for any other line. Every NaN is written `nan`.
-//! The module cannot put a run away, and has no need to: with and without `away` the transcript is the same, by W-201.
+//! steps, startup_iters, or `refused` with 01's or 02's number; `interp` with r and v; `bad line N` for any other line. Every NaN is written `nan`.
+//! The module cannot put a run away, and has no need to: with and without `away` the transcript is the same, by W-201. It takes a start, end or
+//! step that is a NaN or an infinity; its answers there leave the comparison, and such a case comes back as `refused 12`, by W-202. It knows no
+//! limits of settings (refusal 5), so no case here goes beyond them.
 use crate::case::{read_float, Case};
 use crate::force::{Source, V3};
 use crate::gauss_jackson::{GJDenseOutput, GaussJackson8};
@@ -52,6 +54,10 @@ impl Case {
     /// Runs the module, prints the transcript, whole or its end alone, and hands back the samples of a finished run.
     fn play(&self, whole: bool, out: &mut impl Write) -> io::Result<Option<Samples>> {
         writeln!(out, "{} {}", if whole { "case" } else { "final" }, self.name)?;
+        if self.has_blank_date() {
+            writeln!(out, "refused 12")?;
+            return Ok(None);
+        }
         let mut source = Source::new(self.force, self.p);
         let mut asked = 0u16;
         let mut failed = Ok(());

@@ -27,12 +27,12 @@ static void bytes_that_are_no_flag(void) {
 }
 
 static void texts(void) {
-    for (unsigned one = 1; one <= 11; one++) {
+    for (unsigned one = 1; one <= 12; one++) {
         check(strcmp(gj_refusal_text(one), gj_refusal_text(0)) != 0, "each refusal has a text");
         for (unsigned other = 1; other < one; other++)
             check(strcmp(gj_refusal_text(one), gj_refusal_text(other)) != 0, "each refusal has a text of its own");
     }
-    check(strcmp(gj_refusal_text(12), gj_refusal_text(0)) == 0, "other numbers have one text");
+    check(strcmp(gj_refusal_text(13), gj_refusal_text(0)) == 0, "other numbers have one text");
     check(GJ_ABI_NAME(GJ_ABI)() == GJ_ABI, "the library tells the header's ABI number");
 }
 
@@ -79,17 +79,32 @@ static void times_asked(void) {
     }
 }
 
-/* Until a later version refuses them. */
+/* Each of start, end and step as NaN and as both infinities; once more where the two others would give refusal 1. */
 static void dates_that_are_none(void) {
-    gj_run run;
-    gj_settings s = plain();
-    gj_reply end = play(&run, gj_start(&run, s, 0.0, NAN, R0, V0), 0, 0, 1000);
-    check(end.kind == GJ_DONE && end.steps == 4, "an end at NaN: told as finished after four steps");
-    end = play(&run, gj_start(&run, s, NAN, 9.0, R0, V0), 0, 0, 1000);
-    check(end.kind == GJ_DONE && end.steps == 4, "a start at NaN: told as finished after four steps");
-    s.h = NAN;
-    end = play(&run, gj_start(&run, s, 0.0, 9.0, R0, V0), 0, 0, 1000);
-    check(end.kind == GJ_DONE && end.steps == 4, "a step of NaN: told as finished after four steps");
+    static const double blanks[] = {NAN, INFINITY, -INFINITY};
+    for (int i = 0; i < 18; i++) {
+        gj_run run;
+        gj_settings s = plain();
+        double dates[] = {0.0, i < 9 ? 8.0 : 0.0, i < 9 ? 1.0 : 0.0};
+        dates[i % 3] = blanks[i / 3 % 3];
+        s.h = dates[2];
+        memset(&run, 0xA5, sizeof run);
+        check(refused(gj_start(&run, s, dates[0], dates[1], R0, V0), GJ_BLANK_DATE), "a blank date: refusal 12, before 1");
+        check(refused(gj_open_question(&run), GJ_NO_QUESTION), "a blank date leaves no run");
+        s.max_steps = GJ_MAX_STEPS + 1;
+        check(refused(gj_start(&run, s, dates[0], dates[1], R0, V0), GJ_SETTING), "such a date and a setting over its limit: 5, before 12");
+    }
+}
+
+/* Finite dates whose difference is not: the run goes from end to end, in 32 steps either way. */
+static void dates_far_apart(void) {
+    for (int way = -1; way <= 1; way += 2) {
+        gj_run run;
+        gj_settings s = plain();
+        s.h = 0x1p1019, s.corrector_tol = NAN, s.startup_tol = NAN;
+        gj_reply end = play(&run, gj_start(&run, s, -0x1p1023 * way, 0x1p1023 * way, R0, V0), 0, 0, 1000);
+        check(end.kind == GJ_DONE && end.steps == 32 && end.t == 0x1p1023 * way, "a span that overflows is no blank date");
+    }
 }
 
 /* The number of a question comes back 65,536 questions later: an answer that late is taken. */
@@ -122,6 +137,7 @@ void promises(void) {
     samples_left();
     times_asked();
     dates_that_are_none();
+    dates_far_apart();
     late_by_all_numbers();
     out_of_order();
 }

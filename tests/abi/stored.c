@@ -82,6 +82,30 @@ static void contents(const uint8_t *form) {
     }
 }
 
+/* The step as it was set, t0, tf and the step with its direction: a NaN or an infinity in one of them, in the run and in its form. */
+static void blank_dates(const uint8_t *form) {
+    static const int floats[] = {117, 120, 121, 122};
+    static const uint64_t blanks[] = {0x7ff8000000000000, 0xfff0000000000001, 0x7ff0000000000000, 0xfff0000000000000};
+    for (int i = 0; i < 16; i++) {
+        gj_run run, before;
+        uint8_t bytes[GJ_STORED_SIZE];
+        gj_reply open = after(&run, 50, 0);
+        double *dates[] = {&run.body.plan.settings.h, &run.body.plan.t0, &run.body.plan.tf, &run.body.plan.h};
+        memcpy(dates[i % 4], &blanks[i / 4], sizeof(double));
+        before = run;
+        memset(bytes, PATTERN, sizeof bytes);
+        check(gj_store(&run, bytes, sizeof bytes) == GJ_NO_QUESTION, "a run with a blank date is made up: refusal 7 to a storing");
+        check(is_all(bytes, sizeof bytes, PATTERN), "a refused storing leaves the buffer as it was");
+        check(refused_alone(gj_open_question(&run), GJ_NO_QUESTION), "such a run has no open question");
+        check(refused_alone(gj_answer(&run, open.number, open.r, 0, 0), GJ_NO_QUESTION), "such a run takes no answer");
+        check(memcmp(&run, &before, sizeof run) == 0, "such a run is left as it was");
+        memcpy(bytes, form, sizeof bytes);
+        replace(bytes, 6 + 2 * floats[i % 4], (uint32_t)blanks[i / 4]);
+        replace(bytes, 7 + 2 * floats[i % 4], (uint32_t)(blanks[i / 4] >> 32));
+        check_refused(bytes, sizeof bytes, GJ_STORED_CONTENT, "a form with a blank date: refusal 11");
+    }
+}
+
 static void load_refusals(void) {
     gj_run run;
     uint8_t form[GJ_STORED_SIZE];
@@ -89,6 +113,7 @@ static void load_refusals(void) {
     check(gj_store(&run, form, sizeof form) == 0, "a storing");
     shapes(form);
     contents(form);
+    blank_dates(form);
 }
 
 void stored_refusals(void) {

@@ -42,6 +42,7 @@ fn runs() {
 fn refusals() {
     assert_eq!(start(Settings { h: 0.0, ..PLAIN }).unwrap_err(), Refusal::StepNotFinite);
     assert_eq!(start(Settings { max_steps: 1_000_001, ..PLAIN }).unwrap_err(), Refusal::Setting);
+    assert_eq!(start(Settings { h: f64::NAN, ..PLAIN }).unwrap_err(), Refusal::BlankDate);
     assert_eq!(play(Settings { max_steps: 7, ..PLAIN }, &mut []), Err(Refusal::MaxStepsExceeded));
     let (mut run, reply) = start(PLAIN).unwrap();
     assert_eq!(run.answer(1, Triple::default(), &mut []), Err(Refusal::NotThatQuestion));

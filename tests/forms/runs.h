@@ -1,5 +1,5 @@
 /* SPDX-License-Identifier: MIT OR Apache-2.0 */
-/* The runs whose forms are kept: which run, and after how many answers. Their starts, ends and steps are finite: W-202 will ask for that. */
+/* The runs whose forms are kept: which run, and after how many answers. Their starts, ends and steps are finite, as W-202 asks. */
 #ifndef RUNS_H
 #define RUNS_H
 

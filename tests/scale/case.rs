@@ -3,6 +3,10 @@
 use crate::force::{Force, NAMES};
 use crate::raw::{Settings, Triple};
 
+/// What no date may be, by its bits: NaN of several patterns, and both infinities.
+pub const BLANKS: [u64; 6] =
+    [0x7ff8_0000_0000_0000, 0xfff8_0000_0000_0000, 0x7ff0_0000_0000_0001, 0xffff_ffff_ffff_ffff, 0x7ff0_0000_0000_0000, 0xfff0_0000_0000_0000];
+
 #[derive(Clone)]
 pub struct Case {
     pub t0: f64,
@@ -52,6 +56,11 @@ impl Case {
 
     pub fn wants_samples(&self) -> bool {
         self.settings.samples == 1
+    }
+
+    /// Whether the start, the end or the step is a NaN or an infinity (W-202).
+    pub fn has_blank_date(&self) -> bool {
+        ![self.t0, self.tf, self.settings.h].iter().all(|x| x.is_finite())
     }
 
     /// The same case, ending where the clock stands after so many steps.

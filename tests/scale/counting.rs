@@ -1,6 +1,6 @@
 // SPDX-License-Identifier: MIT OR Apache-2.0
-//! Whether a run is one that a line of answers could have left, by its counts alone: docs/DECISIONS.md, "The counting at each waiting point",
-//! written down here from its table and for wide numbers, apart from the library.
+//! Whether a run is one that a line of answers could have left, by its counts and dates alone: docs/DECISIONS.md, "The counting at each waiting
+//! point", written down here from its table and for wide numbers, and W-202's finite dates, apart from the library.
 use crate::raw::Run;
 
 /// Where the numbers of a run stand, by include/gauss_jackson_run.h.
@@ -16,6 +16,8 @@ pub mod places {
     pub const SAMPLES: usize = 72;
     pub const PASSES: usize = 840;
     pub const STEPS: usize = 856;
+    /// The step as it was set, t0, tf, and the step with its direction.
+    pub const DATES: [usize; 4] = [24, 80, 88, 96];
     /// Between fields: these bytes mean nothing.
     pub const PADDING: [(usize, usize); 3] = [(3, 8), (10, 16), (73, 80)];
 }
@@ -81,7 +83,17 @@ fn counts_of(run: &Run) -> Counts {
     }
 }
 
+/// None of the four is a NaN or an infinity: not all bits of the exponent are set.
+pub fn has_finite_dates(run: &Run) -> bool {
+    places::DATES.iter().all(|place| word(run, *place) >> 52 & 0x7ff != 0x7ff)
+}
+
+/// Not made up (01's answer 7).
 pub fn is_sound(run: &Run) -> bool {
+    is_counted(run) && has_finite_dates(run)
+}
+
+pub fn is_counted(run: &Run) -> bool {
     let b = bytes(run);
     let (at, i, s) = (b[places::AT], u128::from(b[places::INDEX]), u128::from(b[places::STAGE]));
     let c = counts_of(run);

@@ -15,6 +15,9 @@ const NANS: [u64; 6] = [
 ];
 const ODD: [u64; 6] = [0x7ff0_0000_0000_0000, 0xfff0_0000_0000_0000, 0x8000_0000_0000_0000, 1, 0, 0x7fef_ffff_ffff_ffff];
 
+/// The step as it was set, t0, tf, and the step with its direction, among the floats.
+const DATES: [usize; 4] = [117, 120, 121, 122];
+
 /// One to three kinds of damage, half of the time under checks that are right again.
 pub fn damaged(form: &Form, other: &Form, rng: &mut Random) -> Vec<u8> {
     let mut bytes = form.to_vec();
@@ -133,11 +136,17 @@ fn shift_answers(bytes: &mut [u8], rng: &mut Random) {
     put(bytes, words::NUMBER, evals % 65536);
 }
 
+/// A blank date, or another one.
+fn change_date(bytes: &mut [u8], rng: &mut Random) {
+    let (nan, odd, any) = (rng.pick(&NANS), rng.pick(&ODD), rng.bits());
+    put_float(bytes, rng.pick(&DATES), rng.pick(&[nan, odd, odd, any]));
+}
+
 /// A change of the content of a whole form, which the checks will not show.
 fn change_content(bytes: &mut [u8], other: &Form, rng: &mut Random) {
     let k = rng.below(FLOATS as u64) as usize;
     let is_zero = content(bytes, words::FLOATS + 2 * k) == 0 && content(bytes, words::FLOATS + 2 * k + 1) == 0;
-    match rng.below(16) {
+    match rng.below(18) {
         0 => change_word(bytes, words::FORM, rng),
         1 => change_word(bytes, words::AT, rng),
         2 => change_word(bytes, rng.pick(&[words::INDEX, words::STAGE]), rng),
@@ -152,6 +161,7 @@ fn change_content(bytes: &mut [u8], other: &Form, rng: &mut Random) {
         12 if !is_zero => put_float(bytes, k, rng.pick(&ODD)),
         13 if !is_zero => put_float(bytes, k, rng.bits()),
         14 => put_word(bytes, BLOCK * rng.below(4) as usize, rng.below(6) as u32),
+        15 | 16 => change_date(bytes, rng),
         _ => mix(bytes, other, rng),
     }
 }

@@ -1,7 +1,7 @@
 // SPDX-License-Identifier: MIT OR Apache-2.0
 //! A case on the library, question by question beside the module's record.
 use crate::away::{self, Away};
-use crate::case::Case;
+use crate::case::{Case, BLANKS};
 use crate::check::{all_same, holds, same, Verdict};
 use crate::counting;
 use crate::judge::Judge;
@@ -166,6 +166,14 @@ impl Line<'_> {
     }
 }
 
+/// A start that is due to be refused by this number, and leaves no run.
+fn refused_start(case: &Case, settings: Settings, refusal: u16, rng: &mut Random, tally: &mut Tally) -> Verdict {
+    let mut run = Run([rng.bits(); 132]);
+    tally.refused[usize::from(refusal)] += 1;
+    holds(is_refused(&start(&mut run, case, settings), refusal), format_args!("refusal {refusal} was due"))?;
+    check_ended(&mut run, rng, tally)
+}
+
 /// A setting over its limit: refusal 5, whatever else.
 fn over_a_limit(case: &Case, rng: &mut Random, tally: &mut Tally) -> Verdict {
     let mut settings = case.settings;
@@ -175,24 +183,45 @@ fn over_a_limit(case: &Case, rng: &mut Random, tally: &mut Tally) -> Verdict {
         1 => settings.max_startup_iters = 100 + by,
         _ => settings.max_steps = 1_000_000 + by,
     }
-    let mut run = Run([rng.bits(); 132]);
-    tally.refused[5] += 1;
-    holds(is_refused(&start(&mut run, case, settings), 5), "refusal 5 was due")?;
-    check_ended(&mut run, rng, tally)
+    refused_start(case, settings, 5, rng, tally)
+}
+
+/// Some of the three dates blank, where the others may ask for refusal 1: 12; over a limit it is 5 all the same.
+fn blank_dates(case: &Case, rng: &mut Random, tally: &mut Tally) -> Verdict {
+    let mut case = case.clone();
+    match rng.below(4) {
+        0 => case.settings.h = 0.0,
+        1 => case.tf = case.t0,
+        _ => (),
+    }
+    for _ in 0..rng.pick(&[1, 1, 2, 3]) {
+        let blank = f64::from_bits(rng.pick(&BLANKS));
+        match rng.below(3) {
+            0 => case.t0 = blank,
+            1 => case.tf = blank,
+            _ => case.settings.h = blank,
+        }
+    }
+    over_a_limit(&case, rng, tally)?;
+    refused_start(&case, case.settings, 12, rng, tally)
 }
 
 pub fn follow(case: &Case, judge: &mut Judge, rng: &mut Random, tally: &mut Tally) -> Verdict {
     if rng.once_in(4) {
         over_a_limit(case, rng, tally)?;
     }
+    if rng.once_in(8) {
+        blank_dates(case, rng, tally)?;
+    }
+    if case.has_blank_date() {
+        return refused_start(case, case.settings, 12, rng, tally);
+    }
     let record = Record::of(case);
+    if matches!(record.end, Err(OdeError::StepNotFinite)) {
+        return refused_start(case, case.settings, 1, rng, tally);
+    }
     let mut run = Run([rng.bits(); 132]);
     let mut reply = start(&mut run, case, case.settings);
-    if matches!(record.end, Err(OdeError::StepNotFinite)) {
-        tally.refused[1] += 1;
-        holds(is_refused(&reply, 1), "refusal 1 was due")?;
-        return check_ended(&mut run, rng, tally);
-    }
     let room = room_for(case, &record, rng);
     let mut line = Line { case, record, run, room, written: 0, away: Away::new(case.away, rng) };
     let mut n = 0;

@@ -1,6 +1,6 @@
 // SPDX-License-Identifier: MIT OR Apache-2.0
-//! W-201 written down a second time, apart from the library: a run to the 2,048 bytes of its stored form, and bytes to a run, or to the fault
-//! that shuts them out.
+//! W-201, with W-202's dates, written down a second time, apart from the library: a run to the 2,048 bytes of its stored form, and bytes to a
+//! run, or to the fault that shuts them out.
 use crate::counting::{self, places};
 use crate::layout::{float_in, one_nan, place_of, point_in, words, Content, Point, CONTENT, FLOATS};
 use crate::raw::Run;
@@ -26,6 +26,7 @@ pub enum Fault {
     Flag,
     Unused,
     MadeUp,
+    BlankDate,
 }
 
 impl Fault {
@@ -111,7 +112,7 @@ pub fn content_in(bytes: &[u8]) -> Result<Content, Fault> {
     Ok(content)
 }
 
-/// The run of a content whose head is known and whose unused words are zero; a number too wide for its field is made up.
+/// The run of a content whose head is known and whose unused words are zero; a number too wide for its field is outside the counting.
 fn run_of(content: &Content) -> Option<Run> {
     let mut run = Run([0; 132]);
     let head = counting::bytes_mut(&mut run);
@@ -126,7 +127,7 @@ fn run_of(content: &Content) -> Option<Run> {
     for (n, place) in COUNTS.iter().enumerate() {
         run.0[place / 8] = content[words::COUNTS + n].into();
     }
-    counting::is_sound(&run).then_some(run)
+    counting::is_counted(&run).then_some(run)
 }
 
 /// The run of these bytes, or why there is none.
@@ -145,7 +146,12 @@ pub fn load(bytes: &[u8]) -> Result<Run, Fault> {
     if (0..CONTENT).any(|j| !point.uses_word(j) && content[j] != 0) {
         return Err(Fault::Unused);
     }
-    run_of(&content).ok_or(Fault::MadeUp)
+    let run = run_of(&content).ok_or(Fault::MadeUp)?;
+    if counting::has_finite_dates(&run) {
+        Ok(run)
+    } else {
+        Err(Fault::BlankDate)
+    }
 }
 
 /// The same runs, field by field, all NaN alike.

@@ -7,13 +7,19 @@ use crate::check::{holds, Verdict};
 pub struct Forms {
     pub damaged: u64,
     /// In the order of `Fault`.
-    pub refused: [u64; 8],
+    pub refused: [u64; 9],
     /// By the waiting point of the run that they load to.
     pub taken: [u64; 9],
     /// Of those taken: the damage left the form as it was; or there was a NaN pattern other than the one that is written.
     pub unchanged: u64,
     pub other_nan: u64,
 }
+
+/// Refusals have numbers from 1 to this.
+const REFUSALS: usize = 12;
+
+/// From so many cases on, each refusal must be among them.
+const ENOUGH_CASES: u64 = 2000;
 
 /// From so many damaged forms on, each kind of verdict must be among them; and from so many, each waiting point among those taken.
 const ENOUGH: u64 = 4000;
@@ -26,7 +32,7 @@ impl Forms {
         let (ten, eleven, taken) = (sum(shape), sum(content), sum(&self.taken));
         println!("  {} damaged forms: {ten} refused by 10, {eleven} by 11, {taken} taken", self.damaged);
         println!("    10 (length, block number, check): {shape:?}");
-        println!("    11 (form number, waiting point, flag, unused content, made up): {content:?}");
+        println!("    11 (form number, waiting point, flag, unused content, made up, a date alone blank): {content:?}");
         println!("    taken, by waiting points 1 to 8: {:?}", &self.taken[1..]);
         println!("    of these left as they were by the damage {}, with other NaN patterns {}", self.unchanged, self.other_nan);
     }
@@ -46,12 +52,15 @@ pub struct Tally {
     pub samples: u64,
     pub finished: u64,
     /// By 01's and 02's number; those of interpolation, storing and loading too.
-    pub refused: [u64; 12],
+    pub refused: [u64; REFUSALS + 1],
     /// Answers given twice, the second time on a copy of the run and into another room.
     pub twins: u64,
     pub made_up: u64,
-    /// Runs that were altered, and were still within the counting.
+    /// Of these: the counts are right, and a date is blank.
+    pub blank: u64,
+    /// Runs that were altered, and were still within the counting; and those of them that have other dates.
     pub altered: u64,
+    pub redated: u64,
     pub tables: u64,
     pub times: u64,
     /// Runs put away and taken up in the middle of their line; and older forms taken up again.
@@ -64,12 +73,20 @@ impl Tally {
     pub fn print(&self, seed: u64, seconds: f64) {
         println!("{} cases equal in {seconds:.0} s, {:.0} a second (seed {seed})", self.cases, self.cases as f64 / seconds);
         println!("  {} questions, {} samples, {} finished states", self.questions, self.samples, self.finished);
-        let refused: Vec<String> = (1..12).map(|n| format!("{n}: {}", self.refused[n])).collect();
+        let refused: Vec<String> = (1..=REFUSALS).map(|n| format!("{n}: {}", self.refused[n])).collect();
         println!("  refusals by number: {}", refused.join(", "));
         println!("  {} answers given again on a copy into another room", self.twins);
-        println!("  {} runs made up, {} altered within the counting", self.made_up, self.altered);
+        println!("  {} runs made up, {} of them by a blank date alone", self.made_up, self.blank);
+        println!("  {} runs altered within the counting, {} of them with other dates", self.altered, self.redated);
         println!("  {} tables, {} times between their samples", self.tables, self.times);
         println!("  {} times put away and taken up, {} older forms taken up again", self.away, self.older);
         self.forms.print();
+    }
+
+    /// A library without the interpolation has no 3, 4 and 9.
+    pub fn every_refusal_was_met(&self) -> Verdict {
+        let is_left_out = |n: usize| cfg!(not(feature = "dense")) && [3, 4, 9].contains(&n);
+        let missing = (1..=REFUSALS).find(|n| self.refused[*n] == 0 && !is_left_out(*n));
+        holds(self.cases < ENOUGH_CASES || missing.is_none(), format_args!("refusal {missing:?} did not occur"))
     }
 }

@@ -1,9 +1,11 @@
 // SPDX-License-Identifier: MIT OR Apache-2.0
 //! What goes wrong in a caller's hands: stale numbers, damaged and short rooms, runs answered twice, runs made up.
 use crate::away;
+use crate::case::BLANKS;
 use crate::check::{all_same, holds, Verdict};
 use crate::counting::{self, places};
 use crate::follow::{answer, check_ended, is_refused, numbers, open_question, Due, Line};
+use crate::questions;
 use crate::random::Random;
 use crate::raw::{Reply, Run, Triple};
 use crate::room::Room;
@@ -72,7 +74,7 @@ fn alter(run: &mut Run, rng: &mut Random) {
     let place = rng.pick(&counts);
     let was = counting::word(run, place);
     let near = was.wrapping_add(rng.below(9)).wrapping_sub(4);
-    match rng.below(16) {
+    match rng.below(20) {
         0 => counting::bytes_mut(run)[places::AT] = rng.below(11) as u8,
         1 => counting::bytes_mut(run)[places::INDEX] = rng.below(11) as u8,
         2 => counting::bytes_mut(run)[places::STAGE] = rng.below(6) as u8,
@@ -83,8 +85,20 @@ fn alter(run: &mut Run, rng: &mut Random) {
         7 | 8 => shift_answers(run, rng),
         9 => run.0[place / 8] = rng.pick(&[0, 4, 100, 101, 999_999, 1_000_000, 1_000_001, u64::MAX, 1 << 63]),
         10 => run.0[place / 8] = rng.bits(),
+        11..=14 => redate(run, rng),
         _ => run.0[place / 8] = near,
     }
+}
+
+/// A date that is blank, or another one: finite dates are taken as they come.
+fn redate(run: &mut Run, rng: &mut Random) {
+    let (blank, any) = (rng.pick(&BLANKS), rng.bits());
+    let other = rng.pick(&[0.0, -0.0, 5e-324, f64::MAX, -1.7e308, 1.0, -60.0]).to_bits();
+    run.0[rng.pick(&places::DATES) / 8] = rng.pick(&[blank, blank, other, any]);
+}
+
+fn dates(run: &Run) -> [u64; 4] {
+    places::DATES.map(|place| counting::word(run, place))
 }
 
 /// More or fewer answers under a question number to match: this may well be within the counting.
@@ -94,9 +108,9 @@ fn shift_answers(run: &mut Run, rng: &mut Random) {
     counting::bytes_mut(run)[places::NUMBER..places::NUMBER + 2].copy_from_slice(&(evals as u16).to_le_bytes());
 }
 
-/// A run that no line of answers left, or one that could be: 7 exactly where the counting shuts it out, before 8.
-fn made_up(run: &Run, rng: &mut Random, tally: &mut Tally) -> Verdict {
-    let mut run = run.clone();
+/// A run that no line of answers left, or one that could be: 7 exactly where the counting or a blank date shuts it out, before 8.
+fn made_up(line_run: &Run, rng: &mut Random, tally: &mut Tally) -> Verdict {
+    let mut run = line_run.clone();
     if rng.once_in(40) {
         run.0.iter_mut().for_each(|w| *w = rng.bits());
         counting::bytes_mut(&mut run)[places::SAMPLES] &= 1;
@@ -113,13 +127,16 @@ fn made_up(run: &Run, rng: &mut Random, tally: &mut Tally) -> Verdict {
     let told = answer(&mut run, number, Triple { x: 1.0, y: -2.0, z: 3.0 }, &mut room);
     if !counting::is_sound(&before) {
         tally.made_up += 1;
+        tally.blank += u64::from(counting::is_counted(&before));
         tally.refused[7] += 1;
         holds(is_refused(&told, 7) && is_refused(&open, 7), format_args!("refusal 7 was due: {before:?}", before = before.0))?;
         holds(before.0 == run.0, "refusal 7 changed the run")?;
         return room.whole_is_as_expected();
     }
     tally.altered += 1;
+    tally.redated += u64::from(dates(&before) != dates(line_run));
     holds(open.kind == 0 && open.number == counting::number(&before), "an altered run within the counting has a question")?;
+    all_same("the question of an altered run", &numbers(&open), &questions::open(&before).1)?;
     if number != counting::number(&before) {
         tally.refused[8] += 1;
         return holds(is_refused(&told, 8) && before.0 == run.0, "refusal 8 was due to an altered run");

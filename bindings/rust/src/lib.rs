@@ -50,8 +50,7 @@
 //! [`Refusal`] with a text. What is left to the caller is the processor's floating-point environment, as Rust itself expects it: rounding
 //! to nearest, subnormal numbers on, exceptions masked. (C code that was built for fast floats may have changed it for its thread.)
 //!
-//! Values that are allowed can still be of no use: a step too large for the orbit, a NaN for a date ([`Run::start`]), times of a batch out
-//! of order ([`interpolate_batch`]).
+//! Values that are allowed can still be of no use: a step too large for the orbit, times of a batch out of order ([`interpolate_batch`]).
 //!
 //! What the library does is proved; this crate, its declarations above all, is not: tests compare them.
 //!

@@ -33,11 +33,13 @@ pub enum Refusal {
     StoredShape,
     /// At a loading: the blocks are whole, but hold no run.
     StoredContent,
+    /// At a start: `t0`, `tf` or the step is a NaN or an infinity.
+    BlankDate,
     /// A number that this crate has no name for: the library is newer than the crate.
     Other(u16),
 }
 
-const NAMED: [Refusal; 11] = [
+const NAMED: [Refusal; 12] = [
     Refusal::StepNotFinite,
     Refusal::MaxStepsExceeded,
     Refusal::NoDenseOutput,
@@ -49,6 +51,7 @@ const NAMED: [Refusal; 11] = [
     Refusal::Shape,
     Refusal::StoredShape,
     Refusal::StoredContent,
+    Refusal::BlankDate,
 ];
 
 impl Refusal {
@@ -92,6 +95,7 @@ impl Refusal {
             Refusal::Shape => "the samples are not in tens, or the output has fewer than six numbers a time",
             Refusal::StoredShape => "there are not 2,048 bytes, or a block's number or check is wrong: cut short, damaged, or no stored run",
             Refusal::StoredContent => "the blocks are whole, but hold no run: another form number, or what no run has",
+            Refusal::BlankDate => "the start, the end or the step is not a finite number; look at the dates that went in",
             Refusal::Other(_) => "a refusal that this crate has no name for",
         }
     }
@@ -118,14 +122,15 @@ mod tests {
         assert_eq!(Refusal::of(1), Refusal::StepNotFinite);
         assert_eq!(Refusal::of(9), Refusal::Shape);
         assert_eq!(Refusal::of(11), Refusal::StoredContent);
+        assert_eq!(Refusal::of(12), Refusal::BlankDate);
         assert_eq!(Refusal::of(0), Refusal::Other(0));
-        assert_eq!(Refusal::of(12), Refusal::Other(12));
+        assert_eq!(Refusal::of(13), Refusal::Other(13));
     }
 
     #[test]
     fn each_has_a_text_of_its_own() {
-        let texts: HashSet<_> = (1..=12).map(|n| Refusal::of(n).text()).collect();
-        assert_eq!(texts.len(), 12);
+        let texts: HashSet<_> = (1..=13).map(|n| Refusal::of(n).text()).collect();
+        assert_eq!(texts.len(), 13);
         let error: &dyn std::error::Error = &Refusal::NotThatQuestion;
         let said = "the answer's number is not that of the open question; the run waits as before (refusal 8)";
         assert_eq!(error.to_string(), said);

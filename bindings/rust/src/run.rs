@@ -32,9 +32,6 @@ pub struct Run(pub(crate) raw::Run);
 impl Run {
     /// A run from `t0` towards `tf`, with its first question.
     ///
-    /// `t0`, `tf` and the step should be finite. **A NaN is not refused by this version:** the run asks its startup and then tells a
-    /// finished state after four steps, far from where it was to go. Test with [`f64::is_finite`] before; a later version refuses.
-    ///
     /// ```
     /// use gauss_jackson::{Reply, Run, Settings, Triple};
     /// let (r0, v0) = (Triple::from([7000.0, 0.0, 0.0]), Triple::from([0.0, 7.5, 0.0]));
@@ -46,8 +43,8 @@ impl Run {
     ///
     /// # Errors
     ///
-    /// In this order: [`Refusal::Setting`] for a setting over its limit, [`Refusal::StepNotFinite`] for a step of zero or a span shorter
-    /// than eight steps.
+    /// In this order: [`Refusal::Setting`] for a setting over its limit, [`Refusal::BlankDate`] where `t0`, `tf` or the step is a NaN or an
+    /// infinity, [`Refusal::StepNotFinite`] for a step of zero or a span shorter than eight steps.
     pub fn start(settings: Settings, t0: f64, tf: f64, r0: Triple, v0: Triple) -> Result<(Run, Reply), Refusal> {
         abi::must_be_ours();
         let mut run = raw::Run([0; 132]);

@@ -113,12 +113,28 @@ fn samples_stay_after_a_refusal() {
     }
 }
 
-/// What `Run::start` warns of. When the library refuses it, the warning goes, and this test with it.
+/// After a setting over its limit, before a step of zero and a span that is too short.
 #[test]
-fn a_blank_date_is_told_as_finished() {
-    for (t0, tf, h) in [(0.0, f64::NAN, 1.0), (f64::NAN, 8.0, 1.0), (0.0, 8.0, f64::NAN)] {
-        let end = run(Settings { h, ..PLAIN }, t0, tf).drive(force, &mut []).unwrap();
-        assert_eq!((end.steps, end.evals), (4, 49));
+fn a_blank_date_is_refused() {
+    for x in [f64::NAN, -f64::NAN, f64::INFINITY, f64::NEG_INFINITY] {
+        for (t0, tf, h) in [(x, 8.0, 1.0), (0.0, x, 1.0), (0.0, 8.0, x), (x, 8.0, 0.0), (0.0, x, 0.0), (0.0, 0.0, x), (x, x, x)] {
+            let settings = Settings { h, ..PLAIN };
+            assert_eq!(start(settings, t0, tf).unwrap_err(), Refusal::BlankDate, "{t0} to {tf} by {h}");
+            assert_eq!(start(Settings { max_steps: 1_000_001, ..settings }, t0, tf).unwrap_err(), Refusal::Setting);
+        }
+    }
+}
+
+/// Dates alone must be finite, and what is worked out from them need not be.
+#[test]
+fn other_numbers_may_be_anything() {
+    let far = 2f64.powi(1023);
+    let settings = Settings { h: far / 16.0, corrector_tol: f64::NAN, startup_tol: f64::INFINITY, ..PLAIN };
+    let at = Triple::from([f64::NAN, f64::INFINITY, f64::NEG_INFINITY]);
+    for (t0, tf) in [(-far, far), (far, -far)] {
+        let (mut run, _) = Run::start(settings, t0, tf, at, at).unwrap();
+        let end = run.drive(|_, _, _| at, &mut []).unwrap();
+        assert_eq!((end.t, end.steps), (tf, 32));
     }
 }
 

@@ -151,7 +151,23 @@ fn whole_blocks_that_hold_no_run() {
     assert_eq!(run.store(), Ok(form));
 }
 
-/// Block 0 has the question's number and block 2 the count of answers, which must agree; floats are taken as they come.
+/// The floats of triples 39 and 40, by their upper words in block 1; the lower ones are zero here. Tolerances may be anything.
+#[test]
+fn a_form_with_a_blank_date_holds_no_run() {
+    let form = after(50).0.store().unwrap();
+    let upper_word = |float: usize| 1 + (6 + 2 * float + 1 - 126);
+    for upper in [0x7ff8_0000, 0xfff8_0000, 0x7ff0_0000, 0xfff0_0000] {
+        for (float, name) in [(117, "h"), (120, "t0"), (121, "tf"), (122, "the step with its direction")] {
+            let blank = with_word(form, 1, upper_word(float), upper);
+            assert_eq!(Run::load(&blank).unwrap_err(), Refusal::StoredContent, "{name} as {upper:x}");
+        }
+        for tolerance in [118, 119] {
+            assert!(Run::load(&with_word(form, 1, upper_word(tolerance), upper)).is_ok());
+        }
+    }
+}
+
+/// Block 0 has the question's number and block 2 the count of answers, which must agree; floats are taken as they come, but for dates.
 #[test]
 fn mixed_blocks_may_load_unnoticed() {
     let (one, other) = (after(50).0.store().unwrap(), after(52).0.store().unwrap());
