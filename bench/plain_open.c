@@ -1,5 +1,5 @@
 /* SPDX-License-Identifier: MIT OR Apache-2.0 */
-/* A run that waits, in plain C: document 01's answer 7, and the question of each waiting point. */
+/* A run that waits, in plain C: document 01's answer 7 with W-202's dates, and the question of each waiting point. */
 #include "plain_open.h"
 #include "plain.h"
 
@@ -7,6 +7,10 @@ static bool within_limits(const gj_settings *s) {
     return s->max_startup_iters <= GJ_MAX_PASSES && s->max_corrector_iters <= GJ_MAX_PASSES && s->max_steps <= GJ_MAX_STEPS &&
            s->samples <= 1;
 }
+
+static bool is_finite(double x) { return x - x == 0.0; }
+
+static bool is_dated(const gj_plan *p) { return is_finite(p->t0) && is_finite(p->tf) && is_finite(p->settings.h) && is_finite(p->h); }
 
 /* At point i of the survey or of a pass, `before` answers having come before its point 0. Point 4 is never asked. */
 static bool at_point(unsigned i, uint64_t before, uint64_t evals) {
@@ -34,7 +38,7 @@ bool plain_is_sound(const gj_run *run) {
     unsigned i = run->mark.index, stage = run->mark.stage;
     uint64_t evals = run->mark.count.evals;
     bool idle = b->startup_iters == 0 && b->track.steps == 0;
-    if (!within_limits(&b->plan.settings) || run->mark.count.number != evals % 65536 || stage > 3) return false;
+    if (!within_limits(&b->plan.settings) || !is_dated(&b->plan) || run->mark.count.number != evals % 65536 || stage > 3) return false;
     switch (run->mark.at) {
     case EPOCH: return idle && evals == 0;
     case FORWARD: return idle && 4 <= i && i <= 7 && evals == 1 + 4 * (i - 4) + stage;
