@@ -13,7 +13,6 @@ use Rattle.triple.specs.Arithmetic.{nought}
 use Rattle.triple.specs.Size.{absolute}
 use Rattle.triple.specs.Finite.{isFinite}
 use Rattle.triple.proofs.Finite.{zero-round, cancel}
-use Rattle.plan.specs.declared.Settings.{Settings}
 use Rattle.plan.specs.declared.Plan.{Plan}
 use Rattle.plan.specs.Limits.{areWithinLimits}
 use Rattle.plan.specs.Plan.{directionOf, planOf, isTooNear}

@@ -14,7 +14,6 @@ use Rattle.whole.proofs.Exact.{Is, move, neg-whole, one-whole}
 use Rattle.whole.proofs.Integers.{plus, less, Holds, Within, sum-parts, neg-parts, le-parts, le-int, abs-int, read, write}
 use Rattle.whole.proofs.Along.{Along, sent-along}
 use Rattle.plan.specs.declared.Settings.{Settings}
-use Rattle.plan.specs.Limits.{areWithinLimits}
 use Rattle.plan.specs.Plan.{directionOf, planOf}
 use Rattle.plan.specs.Lawful.{isDated, isLawful}
 use Rattle.counting.specs.Counting.{spanOf, Bounds}

@@ -1,9 +1,8 @@
 -- 01: "Year, 0 to 31,536,000, h 60, S 12, C 2: K 525,600, 1,576,925 answers." The bounds of demand 3 can be met: the year is within them, with samples,
 -- and with max_steps no more than K. The proof is `the-year` in proofs/Year.antt.
 use mathlib.Core.Path.{_≡_}
-use Prim.Native.Nat.{ℕ}
 use lib.IntN.{ℤ, pos}
-use lib.Ieee.{Float, binary64, ofInt}
+use lib.Ieee.{binary64, ofInt}
 use Rattle.triple.specs.Arithmetic.{nought}
 use Rattle.plan.specs.declared.Settings.{Settings}
 use Rattle.counting.specs.Counting.{spanOf, stepsFor, mostBefore, Bounds}

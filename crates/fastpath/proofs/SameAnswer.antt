@@ -1,6 +1,6 @@
 -- The fast path is the plain way: where `look_at` says that an answer goes it, what changes, each part in its place, is all that `answered`
 -- gives, the run, the outcome and the buffer. For any run, any number, any acceleration and any buffer.
-use mathlib.Core.Path.{_≡_, refl, sym, ap, subst, _∙_}
+use mathlib.Core.Path.{_≡_, refl, sym, subst, _∙_}
 use Prim.Native.Nat.{ℕ, _+_}
 use mathlib.Core.Bool.{Bool, true, false, _&&_, cond, false≢true}
 use mathlib.Core.List.{List}
@@ -13,7 +13,6 @@ use Rattle.plan.specs.declared.Plan.{Plan}
 use Rattle.run.specs.declared.Count.{Count}
 use Rattle.run.specs.declared.Track.{Track}
 use Rattle.run.specs.declared.Run.{Run}
-use Rattle.run.specs.declared.waiting.Waiting.the-variants.{Step}
 use Rattle.run.specs.Formulas.{trackOn, stepPoint}
 use Rattle.run.specs.Questions.{questionAt, endPoint}
 use Rattle.run.specs.Moves.{tried, committed, predicted}

@@ -11,7 +11,7 @@ use Rattle.triple.specs.Sampled.{sampleWidth}
 use Rattle.refusals.specs.declared.Refusal.the-variants.{SampleRoom}
 use Rattle.plan.specs.Limits.{wantsSamples}
 use Rattle.run.specs.declared.Body.{Body}
-use Rattle.run.specs.Samples.{hasRoom, put, putAll, hasPlace, keptSample, keptPoints, startSamples}
+use Rattle.run.specs.Samples.{hasRoom, putAll, hasPlace, keptSample, keptPoints, startSamples}
 use Rattle.run.proofs.Placing.{points-put, points-off}
 use Rattle.gauss_jackson.specs.declared.Answered.{Answered}
 use Rattle.gauss_jackson.specs.declared.Outcome.the-variants.{Refused}

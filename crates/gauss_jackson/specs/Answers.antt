@@ -23,13 +23,11 @@ use Rattle.plan.specs.Verdict.{verdictOn}
 use Rattle.run.specs.declared.Count.{Count}
 use Rattle.run.specs.declared.Body.{Body}
 use Rattle.run.specs.declared.Run.{Run}
-use Rattle.gauss_jackson.specs.declared.Question.{Question}
-use Rattle.gauss_jackson.specs.declared.Solution.{Solution}
 use Rattle.gauss_jackson.specs.declared.Answered.{Answered}
 use Rattle.gauss_jackson.specs.declared.Outcome.{Outcome}
 use Rattle.gauss_jackson.specs.declared.Outcome.the-variants.{Ask, Done, Refused}
 use Rattle.run.specs.declared.waiting.Stage.{Stage}
-use Rattle.run.specs.declared.waiting.Stage.the-variants.{First, Second, Third, Fourth}
+use Rattle.run.specs.declared.waiting.Stage.the-variants.{First}
 use Rattle.run.specs.declared.waiting.Waiting.{Waiting}
 use Rattle.run.specs.declared.waiting.Waiting.the-variants.{Epoch, Forward, Backward, Survey, Pass, Step, Tail, TailSample, Ended, Unknown}
 use Rattle.run.specs.Limits.{numbering}

@@ -1,7 +1,7 @@
 -- The step with its direction is finite exactly where its setting is: times 1 or -1 a double stays what it is.
 use mathlib.Core.Path.{_≡_, refl, sym, ap, _∙_, subst}
 use Prim.Native.Nat.{ℕ, zero, suc, _+_, _-_, _*_, _%_, _^_, _≤_, _<_}
-use native.Mathlib.Nat.{lt-of-lt-of-le, lt-of-not-le, not-le-of-lt, mul-one, mul-assoc, mul-pos}
+use native.Mathlib.Nat.{lt-of-lt-of-le, lt-of-not-le, not-le-of-lt, mul-one, mul-assoc}
 use native.Mathlib.Omega.{arith}
 use mathlib.Core.Bool.{Bool, true, false, _&&_, cond}
 use lib.Dec.{T, eqb, ltb, leb, ltb→lt, leb→le}

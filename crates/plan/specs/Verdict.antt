@@ -27,6 +27,6 @@ abbrev pub InOrder : Type 0
 InOrder =
     (s : Settings) (t0 tf : Float) → T (fits binary64 (s .h))
     → verdictOn (planOf s t0 tf)
-        ≡ cond (areWithinLimits s)
-        (cond (isFinite t0 && isFinite tf && isFinite (s .h)) (cond (isTooNear (planOf s t0 tf)) (Refuse StepNotFinite) Fine) (Refuse BlankDate))
-        (Refuse Setting)
+    ≡ cond (areWithinLimits s)
+    (cond (isFinite t0 && isFinite tf && isFinite (s .h)) (cond (isTooNear (planOf s t0 tf)) (Refuse StepNotFinite) Fine) (Refuse BlankDate))
+    (Refuse Setting)

@@ -7,7 +7,7 @@ use mathlib.Core.List.{List, [], _∷_}
 use lib.ListN.{set}
 use lib.Ieee.{Float}
 use Rattle.triple.specs.declared.Triple.{Triple}
-use Rattle.triple.specs.Nine.{at, nineZeros}
+use Rattle.triple.specs.Nine.{nineZeros}
 use Rattle.refusals.specs.declared.Refusal.the-variants.{StepNotFinite}
 use Rattle.startup.specs.declared.Places.{Places}
 use Rattle.startup.specs.Points.{firstPlaces}
@@ -28,7 +28,7 @@ use Rattle.gauss_jackson.specs.Answers.{asking, answered, startedBy, started}
 use Rattle.rules.specs.Rules.{Course, asks, forward, backward, others, survey, passes, fly, integrate}
 use Rattle.rules.specs.Walk.{told, Call, Result, Stop, settle, walk, beginBy, begin}
 use Rattle.rules.specs.Follows.{heard, played, FollowsTheRules}
-use Rattle.rules.proofs.Rest.{next, restAt, rest, lineOf, seen}
+use Rattle.rules.proofs.Rest.{next, restAt, lineOf, seen}
 use Rattle.rules.proofs.Bridge.{asked-is, ended-is}
 use Rattle.rules.proofs.Calls.{call-is}
 

@@ -11,7 +11,7 @@ use lib.Ieee.{neg}
 use borrow.Author.Tests.{ltb-true, ltb-false}
 use Rattle.triple.specs.declared.Triple.{Triple}
 use Rattle.triple.specs.declared.State.{State}
-use Rattle.triple.specs.Nine.{at, slid}
+use Rattle.triple.specs.Nine.{slid}
 use Rattle.sums.specs.declared.Fixed.{Fixed}
 use Rattle.sums.specs.Sums.{predictedState, fixedOf, correctedState}
 use Rattle.startup.specs.declared.Places.{Places}
@@ -29,7 +29,7 @@ use Rattle.run.specs.Questions.{stageQuestion, gridPoint, endPoint, questionAt}
 use Rattle.run.specs.Moves.{withSlope, kept, endOf, movedOn, movedBack, predicted, committed, endOfTail, renewed, surveyed}
 use Rattle.run.specs.Samples.{stepSample}
 use Rattle.rules.specs.Rules.{Course, asks, ends, exceeds, rk4, forward, backward, others, renew, passes, sampled, tail, correct, step, march, survey}
-use Rattle.rules.proofs.Rest.{sweeping, looking, turning, ahead, behind, seeing, passed, renewing, loop, due, landing, last, tailed, later, after3, after2, after1, stage, next, restAt}
+use Rattle.rules.proofs.Rest.{looking, turning, ahead, behind, seeing, renewing, due, landing, last, tailed, later, after3, after2, after1, stage, next, restAt}
 
 -- ---- the RK4 steps of the startup
 pub forward-next : (i : ℕ) (p : Plan) (x : Places) (k : Places → Course) → i < 8

@@ -5,7 +5,6 @@ use mathlib.Core.Bool.{cond}
 use mathlib.Core.List.{List, [], _∷_}
 use Rattle.triple.specs.declared.Triple.{Triple}
 use Rattle.triple.specs.declared.State.{State}
-use Rattle.triple.specs.Nine.{at}
 use Rattle.startup.specs.declared.Places.{Places}
 use Rattle.startup.specs.declared.Widest.{Widest}
 use Rattle.startup.specs.Passes.{isSettled}
@@ -23,7 +22,7 @@ use Rattle.run.specs.Moves.{surveyed, kept, movedOn, movedBack, renewed, commit
 use Rattle.run.specs.Samples.{stepSample, lastSample}
 use Rattle.run.specs.Sound.{isSound}
 use Rattle.gauss_jackson.specs.Answers.{Given}
-use Rattle.rules.specs.Rules.{Course, asks, stores, ends, exceeds, forward, backward, others, survey, renew, passes, sampled, tail, correct, step, march, fly}
+use Rattle.rules.specs.Rules.{Course, asks, stores, ends, exceeds, forward, backward, others, survey, renew, passes, sampled, correct, march, fly}
 use Rattle.rules.specs.Walk.{told, Line, open-at, over, Stop}
 
 -- ---- the heads of the loops, at a body

@@ -14,7 +14,7 @@ use Rattle.run.specs.Sound.{isSound}
 use Rattle.gauss_jackson.specs.declared.Question.{Question}
 use Rattle.gauss_jackson.specs.declared.Outcome.the-variants.{Ask}
 use Rattle.gauss_jackson.specs.Answers.{Given, answered, started, openQuestion}
-use Rattle.rules.specs.Walk.{question, told, Call, Result, Stop, walk, begin}
+use Rattle.rules.specs.Walk.{question, told, Call, Result, walk, begin}
 
 -- what the caller has of one call of `answer`
 abbrev pub heard : Given → Result

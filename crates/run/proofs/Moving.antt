@@ -1,7 +1,7 @@
 -- How the counts move on: each answer takes the counts of its waiting point to those of the next.
 use mathlib.Core.Path.{_≡_, refl, sym, _∙_, ap, subst}
 use mathlib.Core.Logic.{_≢_}
-use Prim.Native.Nat.{ℕ, zero, suc, _+_, _-_, _*_, _≤_, _<_}
+use Prim.Native.Nat.{ℕ, suc, _+_, _-_, _*_, _≤_, _<_}
 use native.Mathlib.Nat.{suc-mul}
 use native.Mathlib.Omega.{arith}
 use mathlib.Core.Bool.{Bool, true, false, cond, false≢true}
@@ -13,13 +13,12 @@ use Rattle.plan.specs.Limits.{wantsSamples}
 use Rattle.run.specs.declared.Body.{Body}
 use Rattle.run.specs.declared.waiting.Stage.{Stage}
 use Rattle.run.specs.declared.waiting.Stage.the-variants.{First, Second, Third, Fourth}
-use Rattle.run.specs.declared.waiting.Waiting.{Waiting}
 use Rattle.run.specs.declared.waiting.Waiting.the-variants.{Epoch, Forward, Backward, Survey, Pass, Step, Tail, TailSample}
 use Rattle.run.specs.Waiting.{stageNumber, isLast, stageAfter, nextPoint}
 use Rattle.run.specs.Sound.{rankOf}
 use Rattle.run.specs.Formulas.{startTrack, trackOn}
 use Rattle.run.specs.Moves.{surveyed, kept, movedOn, movedBack, passBegun, renewed, passMade, launched, predicted, tried, committed}
-use Rattle.run.proofs.Counts.{Stepping, SteppingBody, Point, Counts}
+use Rattle.run.proofs.Counts.{SteppingBody, Point, Counts}
 
 -- ---- the startup's RK4 steps
 pub epoch-on : (e : ℕ) (b : Body) (x : Triple) → Counts Epoch e b → Counts (Forward 4 First) (e + 1) (surveyed 4 b x)

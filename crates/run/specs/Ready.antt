@@ -1,6 +1,6 @@
 -- What the code needs to know of a sound run, so that no index runs out and no count wraps: the `requires` of private helpers. No promise to a
 -- caller cites this file.
-use Prim.Native.Nat.{ℕ, _≤_, _<_}
+use Prim.Native.Nat.{_≤_, _<_}
 use Rattle.plan.specs.declared.Settings.{Settings}
 use Rattle.plan.specs.Limits.{maxPasses, maxSteps}
 use Rattle.run.specs.declared.Body.{Body}

@@ -3,7 +3,7 @@
 -- or step that is not finite.
 -- e is the count of answers accepted before the open question: 1 at the epoch, 16 in each RK4 half, 8 in the survey, 8 in each startup pass.
 use Prim.Native.Nat.{ℕ, _+_, _-_, _*_, _%_}
-use mathlib.Core.Bool.{Bool, false, not, _&&_, _||_, cond}
+use mathlib.Core.Bool.{Bool, false, not, _&&_, cond}
 use lib.Dec.{eqb, ltb, leb}
 use Rattle.plan.specs.declared.Settings.{Settings}
 use Rattle.plan.specs.declared.Plan.{Plan}

@@ -7,7 +7,6 @@ use crate::Slopes;
 use crate::Track;
 use crate::Trial;
 use crate::formulas;
-use crate::questions;
 use crate::waiting::Stage;
 use plan::Plan;
 use startup::Widest;
