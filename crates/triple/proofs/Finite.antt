@@ -30,10 +30,10 @@ cancel true a c h = left (le-ltb a a (omega arith)) ∙ ap (λ (z : ℕ). round 
     left e = ap (λ (b : Bool). cond b (round binary64 false (a - a) c) (round binary64 b (a - a) c)) e
 cancel false a c h = ap (λ (b : Bool). cond b (round binary64 true (a - a) c) (round binary64 false (a - a) c)) (le-ltb a a (omega arith)) ∙ ap (λ (z : ℕ). round binary64 false z c) (sub-self a) ∙ zero-round false c h
 
--- a NaN and an infinity leave a NaN, which is not 0
-pub less-itself : (x : Float) → eq (sub binary64 x x) nought ≡ isFinite x
+-- a NaN and an infinity leave a NaN, which differs from itself
+pub less-itself : (x : Float) → eq (sub binary64 x x) (sub binary64 x x) ≡ isFinite x
 unfolding isFinite sub add neg eq
 less-itself nan = refl
 less-itself (inf true) = refl
 less-itself (inf false) = refl
-less-itself (fin s m e) = ap (λ (y : Float). eq y nought) (cancel s (m * up e * down e) (down e * down e) (mul-pos (down-pos e) (down-pos e)))
+less-itself (fin s m e) = ap (λ (y : Float). eq y y) (cancel s (m * up e * down e) (down e * down e) (mul-pos (down-pos e) (down-pos e)))

@@ -122,11 +122,12 @@ pub fn abs(x: f64) -> f64
     if x < 0.0 { -x } else { x }
 }
 
-// Neither a NaN nor an infinity: only a finite number less itself is zero.
+// Neither a NaN nor an infinity: these leave a NaN, which differs from itself, where a finite number leaves 0.0.
 pub fn is_finite(x: f64) -> bool
     ensures { λ b. ⌜ b ≡ isFinite x ⌝ }
 {
-    x - x == 0.0
+    let rest = x - x;
+    rest == rest
 }
 
 // a, unless b is greater: a NaN in b is passed over.

@@ -1,11 +1,9 @@
--- `is_finite` is `isFinite`: by the test `x - x == 0.0`.
-use lib.Ieee.{ofBits}
+-- `is_finite` is `isFinite`: what is left of a number less itself is compared with itself.
 use Rattle.triple.proofs.Finite.{less-itself}
 use Rattle.triple.proofs.is_finite.Statement.{statement}
 use Rattle.triple.proofs.is_finite.Tie as tie
 
 returns : tie.Need-returns
-unfolding ofBits
 returns c = less-itself _
 
 pub is-finite-spec : {M : Type 1} → statement M
