@@ -4,6 +4,9 @@ columns='module module-1 plain library'
 points='epoch survey pass step tail'
 objects='plain plain_read plain_open plain_stored library driver'
 
+# bench/where finds names by address, so a program must lie where it was linked. One for an emulator does: it is linked whole.
+if [ "$with" = cross ] && [ -z "$static" ]; then static=-no-pie; fi
+
 # The objects of $objects, as files.
 object_files() { for part in $objects; do echo "$out/$part.o"; done; }
 
