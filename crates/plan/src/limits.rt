@@ -37,8 +37,8 @@ pub fn wants_samples(s: Settings) -> bool
 pub fn is_dated(p: Plan) -> bool
     ensures { λ b. ⌜ b ≡ isDated p ⌝ }
 {
-    let there = triple::is_finite(p.t0) & triple::is_finite(p.tf);
-    there & triple::is_finite(p.settings.h) & triple::is_finite(p.h)
+    let dates = triple::is_finite(p.t0) & triple::is_finite(p.tf);
+    dates & triple::is_finite(p.settings.h) & triple::is_finite(p.h)
 }
 
 // Whether a run may hold this plan. A start and every later call ask the same.
