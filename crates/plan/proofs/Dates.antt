@@ -20,6 +20,7 @@ use Rattle.plan.specs.Lawful.{isDated}
 use Rattle.plan.specs.Verdict.{InOrder}
 use Rattle.plan.proofs.Verdicts.{by-tests}
 
+-- what has a value is finite
 pub has-value : (x : Float) (s : Bool) (a c : ℕ) → HasValue x s a c → isFinite x ≡ true
 unfolding isFinite
 has-value nan s a c h = absurd h
@@ -34,10 +35,12 @@ lifted L (negsuc k) = L - suc k
 pow-le : (i j : ℕ) → 2 ^ i ≤ 2 ^ j → i ≤ j
 pow-le i j h = let g : i < suc j = lt-of-not-le (λ (l : suc j ≤ i). not-le-of-lt (pow-lt l) h) in omega (arith, g)
 
+-- below 2 ^ E as a number, so below 2 ^ (E + L) in these units
 bounded : (L E m : ℕ) (e : ℤ) → 53 ≤ E → m < 2 ^ 53 → m * up e < 2 ^ E * down e → m * 2 ^ lifted L e < 2 ^ (E + L)
 bounded L E m (pos k) w l h = subst (λ (z : ℕ). z < 2 ^ (E + L)) (mul-assoc m (2 ^ k) (2 ^ L) ∙ ap (λ (z : ℕ). m * z) (sym (pow-add 2 k L))) (shl-lt E L (omega (arith, h)))
 bounded L E m (negsuc k) w l h = lt-of-lt-of-le (shl-lt 53 (L - suc k) l) (pow-mono (omega arith))
 
+-- the fraction that `mul` rounds, over the units
 same : (L m : ℕ) (e : ℤ) → down e ≤ 2 ^ L → m * up e * (1 * 1) * 2 ^ L ≡ m * 2 ^ lifted L e * (down e * 1)
 same L m (pos k) d =
     ap (λ (z : ℕ). z * 2 ^ L) (mul-one (m * 2 ^ k))
@@ -55,6 +58,7 @@ same L m (negsuc k) d =
     one : m * 1 * (1 * 1) ≡ m
     one = omega arith
 
+-- ---- what a double other than 0 is: 53 digits, no unit below 2 ^ -1074, less than 2 ^ 1024
 record Held (m : ℕ) (e : ℤ) : Type 0 where
   pub small : m < 2 ^ 53
   pub deep : down e ≤ 2 ^ 1074
@@ -86,6 +90,7 @@ times-one (fin s (suc m) e) t f =
     (round-exact binary64 (unlike false t) (suc m * up e * (1 * 1)) (down e * 1) (suc m) (lifted 1074 e) (omega (arith, down-pos e))
     (h .small) (bounded 1074 1024 (suc m) e (omega arith) (h .small) (h .below)) (same 1074 (suc m) e (h .deep)))
 
+-- ---- the direction is 1 or -1
 one-is : ofInt binary64 (pos 1) ≡ fin false 1 (pos 0)
 unfolding ofInt round
 one-is = refl
@@ -98,6 +103,7 @@ way-is t0 tf = go (le t0 tf)
     go true = (false, one-is)
     go false = (true, ap neg one-is)
 
+-- ---- a start's plan: its step is finite where the setting is, so three numbers decide
 step-finite : (s : Settings) (t0 tf : Float) → T (fits binary64 (s .h)) → isFinite (planOf s t0 tf .h) ≡ isFinite (s .h)
 unfolding planOf
 step-finite s t0 tf f =
