@@ -23,7 +23,7 @@ use Rattle.app.specs.declared.Replied.{Replied}
 
 -- the number of the interface
 abbrev pub abiNumber : ℕ
-abiNumber = 1
+abiNumber = 2
 
 -- kind 0: the next question
 unfoldable pub asksFor : Question → Reply

@@ -57,12 +57,12 @@ struct SteppedReply {
     reply: Reply,
 }
 
-const ABI_NUMBER: u32 = 1;
+const ABI_NUMBER: u32 = 2;
 
 // The number of this interface, which its name has too: it goes up when the run's size or a call's shape changes, so that a program that
 // was built against another one does not link.
 #[no_mangle]
-pub extern "C" fn gj_abi_1() -> u32
+pub extern "C" fn gj_abi_2() -> u32
     ensures { λ n. ⌜ n ≡ abiNumber ⌝ }
 {
     ABI_NUMBER
@@ -146,7 +146,7 @@ pub extern "C" fn gj_load(run: &mut Run, bytes: &[u8]) -> Reply
     done.reply
 }
 
-// Position and velocity at t, six numbers of `out`: 0, or the number of the refusal (9, 3, 4).
+// Position, velocity and acceleration at t, nine numbers of `out`: 0, or the number of the refusal (9, 3, 4).
 #[no_mangle]
 pub extern "C" fn gj_interpolate(t: f64, samples: &[f64], out: &mut [f64]) -> u32
     ensures { λ n. ⌜ n ≡ numberTold (judged (t ∷ []) (now (samples .entry)) (now (out .entry))) ⌝ }

@@ -13,7 +13,7 @@ use borrow.Author.Tests.{lt-ltb, le-ltb, ltb-true, ltb-false}
 use Rattle.dense.specs.declared.interval.Ends.{Ends}
 use Rattle.dense.specs.Table.{timeOf}
 use Rattle.dense.specs.Intervals.{reached, firstPast, isShort, walkOn, walkedTo}
-use Rattle.dense.specs.Interpolation.{width, isOutside, anyOutside, valueAt, written, writtenAll}
+use Rattle.dense.specs.Interpolation.{betweenNumbers, isOutside, anyOutside, valueAt, written, writtenAll}
 
 one-left : (m n : ℕ) → n < m → m - n ≡ suc (m - (n + 1))
 one-left m n h = omega arith
@@ -94,9 +94,9 @@ module _ (times : List Float) (j : ℕ) (h : length times ≤ j) where
   put-end l k out = rw (drop-of-length-le times h)
 
 -- ---- room: times that fit, said by the quotient and by the product
-pub room-is : (room times : ℕ) → ltb (room / width) times ≡ ltb room (width * times)
-room-is room times = by (ltb room (width * times)) (λ e. ltb-true room (width * times) e) (λ e. ltb-false room (width * times) e)
+pub room-is : (room times : ℕ) → ltb (room / betweenNumbers) times ≡ ltb room (betweenNumbers * times)
+room-is room times = by (ltb room (betweenNumbers * times)) (λ e. ltb-true room (betweenNumbers * times) e) (λ e. ltb-false room (betweenNumbers * times) e)
   where
-    by : (b : Bool) → (b ≡ true → room < width * times) → (b ≡ false → width * times ≤ room) → ltb (room / width) times ≡ b
-    by true t f = let h : room < width * times = t refl in lt-ltb (room / width) times (omega arith)
-    by false t f = let h : width * times ≤ room = f refl in le-ltb (room / width) times (omega arith)
+    by : (b : Bool) → (b ≡ true → room < betweenNumbers * times) → (b ≡ false → betweenNumbers * times ≤ room) → ltb (room / betweenNumbers) times ≡ b
+    by true t f = let h : room < betweenNumbers * times = t refl in lt-ltb (room / betweenNumbers) times (omega arith)
+    by false t f = let h : betweenNumbers * times ≤ room = f refl in le-ltb (room / betweenNumbers) times (omega arith)

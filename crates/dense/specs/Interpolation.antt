@@ -1,6 +1,7 @@
 -- 01, "Numbered answers": "3 NoDenseOutput: fewer than 2 samples", "4 InterpOutOfBounds: a time below the lower or above the upper end sample",
 -- "9 shape: in interpolation: sample numbers not a multiple of 10, or output below 6 numbers a time"; "Interpolation 9, 3, 4; output past 6 numbers
--- a time is untouched." A refusal leaves the output untouched, "for a batch wholly".
+-- a time is untouched." Since W-203 the six are nine: "Its answer grows from six numbers to nine; both interpolations hand it on. Refusals: 9 reads
+-- nine numbers a time for the output." A refusal leaves the output untouched, "for a batch wholly".
 use Prim.Native.Nat.{ℕ, _+_, _*_, _/_, _%_}
 use mathlib.Core.Bool.{Bool, false, _||_, not, cond}
 use mathlib.Core.List.{List, [], _∷_}
@@ -17,14 +18,14 @@ use Rattle.dense.specs.declared.interval.Ends.{Ends}
 use Rattle.dense.specs.Table.{countOf, sampleOf}
 use Rattle.dense.specs.Intervals.{endsOf, intervalOf, walkedTo}
 
--- how many numbers a time takes
-abbrev pub width : ℕ
-width = 6
+-- how many numbers a time takes: position, velocity, acceleration
+abbrev pub betweenNumbers : ℕ
+betweenNumbers = 9
 
 -- ---- what is told
 -- 9
 unfoldable pub isMisshapen : List Float → List Float → List Float → Bool
-isMisshapen times samples out = not (eqb (length samples % sampleWidth) 0) || ltb (length out) (width * length times)
+isMisshapen times samples out = not (eqb (length samples % sampleWidth) 0) || ltb (length out) (betweenNumbers * length times)
 
 -- 4
 unfoldable pub isOutside : Ends → Float → Bool
@@ -51,13 +52,14 @@ valueAt l k t = quinticHermite (sampleOf l k) (sampleOf l (k + 1)) t
 -- the numbers from place p on
 abbrev putFrom : ℕ → Between → List Float → List Float
 putFrom p b out =
-    set (set (set (set (set (set out
+    set (set (set (set (set (set (set (set (set out
     p (b .r .x)) (p + 1) (b .r .y)) (p + 2) (b .r .z))
-    (p + 3) (b .v .x)) (p + 4) (b .v .y)) (p + 5) (b .v .z)
+    (p + 3) (b .v .x)) (p + 4) (b .v .y)) (p + 5) (b .v .z))
+    (p + 6) (b .a .x)) (p + 7) (b .a .y)) (p + 8) (b .a .z)
 
--- time j takes `width` numbers, if they have room
+-- time j takes `betweenNumbers` numbers, if they have room
 unfoldable pub written : ℕ → Between → List Float → List Float
-written j b out = cond (ltb j (length out / width)) (putFrom (width * j) b out) out
+written j b out = cond (ltb j (length out / betweenNumbers)) (putFrom (betweenNumbers * j) b out) out
 
 -- the batch from time j on, with the walk at interval k: each time in turn, on from where the one before it stood
 unfoldable pub writtenAll : List Float → ℕ → ℕ → List Float → List Float → List Float

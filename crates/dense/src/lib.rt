@@ -1,5 +1,5 @@
 // SPDX-License-Identifier: MIT OR Apache-2.0
-// Between samples: position and velocity at one time, or at a row of times. Both functions take any numbers and any lengths; they
+// Between samples: position, velocity and acceleration at one time, or at a row of times. Both functions take any numbers and any lengths; they
 // refuse by 01's numbers, and their contracts say what every number of `out` is when they return.
 use refusals::Told;
 ghost use mathlib.Core.Path.{_≡_};
@@ -11,10 +11,10 @@ mod table;
 mod verdict;
 mod writing;
 
-// How many numbers of `out` a time takes: position, then velocity.
-pub const WIDTH: usize = 6;
+// How many numbers of `out` a time takes: position, velocity, acceleration.
+pub const BETWEEN_NUMBERS: usize = 9;
 
-// Position and velocity at t, as the first numbers of `out`.
+// Position, velocity and acceleration at t, as the first numbers of `out`.
 pub fn interpolate(t: f64, samples: &[f64], out: &mut [f64]) -> Told
     ensures { λ r. ⌜ r ≡ judged (t ∷ []) (now (samples .entry)) (now (out .entry)) ⌝ }
     ensures { λ _. ⌜ now (out .exit) ≡ interpolated t (now (samples .entry)) (now (out .entry)) ⌝ }
@@ -31,7 +31,7 @@ pub fn interpolate(t: f64, samples: &[f64], out: &mut [f64]) -> Told
     }
 }
 
-// Position and velocity at each of the times, one after the other in `out`. One walk through the table serves them all, so they are
+// Position, velocity and acceleration at each of the times, one after the other in `out`. One walk through the table serves them all, so they are
 // meant to stand in the table's own order; they need not.
 pub fn interpolate_batch(times: &[f64], samples: &[f64], out: &mut [f64]) -> Told
     ensures { λ r. ⌜ r ≡ judged (now (times .entry)) (now (samples .entry)) (now (out .entry)) ⌝ }

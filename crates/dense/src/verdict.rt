@@ -1,6 +1,6 @@
 // SPDX-License-Identifier: MIT OR Apache-2.0
 // What a call is told, before anything is written: refusal 9, 3 or 4, in this order, or none.
-use crate::WIDTH;
+use crate::BETWEEN_NUMBERS;
 use crate::interval;
 use crate::interval::Ends;
 use crate::table;
@@ -17,7 +17,7 @@ fn is_misshapen(times: &[f64], samples: &[f64], out: &[f64]) -> bool
     if samples.len() % table::SAMPLE_WIDTH != 0 {
         return true;
     }
-    out.len() / WIDTH < times.len()
+    out.len() / BETWEEN_NUMBERS < times.len()
 }
 
 // 4, of one time. A NaN is neither below nor above.

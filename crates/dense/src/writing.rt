@@ -1,6 +1,6 @@
 // SPDX-License-Identifier: MIT OR Apache-2.0
 // What is written for each time, and where.
-use crate::WIDTH;
+use crate::BETWEEN_NUMBERS;
 use crate::interval;
 use crate::table;
 use quintic::Between;
@@ -23,14 +23,17 @@ pub fn value(samples: &[f64], k: usize, t: f64) -> Between
 pub fn store(j: usize, b: Between, out: &mut [f64])
     ensures { λ _. ⌜ now (out .exit) ≡ written j b (now (out .entry)) ⌝ }
 {
-    if j < out.len() / WIDTH {
-        let p = WIDTH * j;
+    if j < out.len() / BETWEEN_NUMBERS {
+        let p = BETWEEN_NUMBERS * j;
         out[p] = b.r.x;
         out[p + 1] = b.r.y;
         out[p + 2] = b.r.z;
         out[p + 3] = b.v.x;
         out[p + 4] = b.v.y;
         out[p + 5] = b.v.z;
+        out[p + 6] = b.a.x;
+        out[p + 7] = b.a.y;
+        out[p + 8] = b.a.z;
     }
 }
 

@@ -1,15 +1,17 @@
 // SPDX-License-Identifier: MIT OR Apache-2.0
 // The quintic between two samples: the one curve that meets time, position, velocity and acceleration of both.
-// Evaluated in the order of the module's quintic_hermite, operation by operation; total, at equal times and NaN too.
+// Evaluated in the order of the module's quintic_hermite, operation by operation; the acceleration, which the module does not tell, in its manner.
+// Total, at equal times and NaN too.
 use triple::Sample;
 use triple::Triple;
 ghost use mathlib.Core.Path.{_≡_};
-ghost use Rattle.quintic.specs.Quintic.{delta1, delta2, delta3, curveOf, positionOn, velocityOn, quinticHermite};
+ghost use Rattle.quintic.specs.Quintic.{delta1, delta2, delta3, curveOf, positionOn, velocityOn, accelerationOn, quinticHermite};
 
 // What is told of a time between two samples.
 pub struct Between {
     pub r: Triple,
     pub v: Triple,
+    pub a: Triple,
 }
 
 // The three highest coefficients, in powers of s.
@@ -19,7 +21,7 @@ pub struct Curve {
     pub c5: Triple,
 }
 
-// Position and velocity at t on the curve between two samples.
+// Position, velocity and acceleration at t on the curve between two samples.
 pub fn quintic_hermite(from: Sample, to: Sample, t: f64) -> Between
     ensures { λ b. ⌜ b ≡ quinticHermite from to t ⌝ }
 {
@@ -28,7 +30,8 @@ pub fn quintic_hermite(from: Sample, to: Sample, t: f64) -> Between
     let curve = curve_of(h, from, to);
     let r = position_on(h, s, from, curve);
     let v = velocity_on(h, s, from, curve);
-    Between { r, v }
+    let a = acceleration_on(h, s, from, curve);
+    Between { r, v, a }
 }
 
 fn curve_of(h: f64, from: Sample, to: Sample) -> Curve
@@ -92,4 +95,16 @@ fn velocity_on(h: f64, s: f64, from: Sample, curve: Curve) -> Triple
         .plus(curve.c3.times(3.0 * s2 / h))
         .plus(curve.c4.times(4.0 * s3 / h));
     bent.plus(curve.c5.times(5.0 * s4 / h))
+}
+
+fn acceleration_on(h: f64, s: f64, from: Sample, curve: Curve) -> Triple
+    ensures { λ a. ⌜ a ≡ accelerationOn h s from curve ⌝ }
+{
+    let s2 = s * s;
+    let s3 = s2 * s;
+    let third = curve.c3.times(6.0 * s);
+    let fourth = curve.c4.times(12.0 * s2);
+    let fifth = curve.c5.times(20.0 * s3);
+    let bent = third.plus(fourth).plus(fifth);
+    from.a.plus(bent.over(h * h))
 }

@@ -84,9 +84,9 @@ fn tell(told: Told, times: usize, out: &[f64]) {
 fn tell_each(times: usize, out: &[f64]) {
     let mut j = 0usize;
     while j < times {
-        if j < out.len() / dense::WIDTH {
-            let at = dense::WIDTH * j;
-            text::print_between(&out[at..at + dense::WIDTH]);
+        if j < out.len() / dense::BETWEEN_NUMBERS {
+            let at = dense::BETWEEN_NUMBERS * j;
+            text::print_between(&out[at..at + dense::BETWEEN_NUMBERS]);
         }
         j += 1;
     }
@@ -104,7 +104,7 @@ pub fn tell_at(place: Place, line: &[u8], at: usize, samples: &[f64]) {
         text::print_bad(place.number);
         return;
     }
-    let mut out = [0.0f64; dense::WIDTH];
+    let mut out = [0.0f64; dense::BETWEEN_NUMBERS];
     let told = dense::interpolate(times[0], samples, &mut out);
     tell(told, 1, &out);
 }

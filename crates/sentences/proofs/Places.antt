@@ -15,7 +15,7 @@ use Rattle.refusals.specs.declared.Told.{Told}
 use Rattle.refusals.specs.declared.Told.the-variants.{Written, Refused}
 use Rattle.dense.specs.Table.{countOf}
 use Rattle.dense.specs.Intervals.{endsOf, intervalOf, walkedTo}
-use Rattle.dense.specs.Interpolation.{width, isMisshapen, anyOutside, judged, valueAt, written, writtenAll, unless, interpolated, batched}
+use Rattle.dense.specs.Interpolation.{betweenNumbers, isMisshapen, anyOutside, judged, valueAt, written, writtenAll, unless, interpolated, batched}
 use Rattle.sentences.specs.Sentences.{PastUntouched, PastUntouchedOne, RoomForAll}
 
 other : (l : List Float) (i : ℕ) (x : Float) (p : ℕ) → i < p → getD (set l i x) p nan ≡ getD l p nan
@@ -32,15 +32,15 @@ others l q p a b c d e f h =
     let h5 : q + 5 < p = omega arith in
     rw (other, other, other, other, other, other)
 
-put-past : (j : ℕ) (b : Between) (out : List Float) (p : ℕ) → width * j + width ≤ p → getD (written j b out) p nan ≡ getD out p nan
+put-past : (j : ℕ) (b : Between) (out : List Float) (p : ℕ) → betweenNumbers * j + betweenNumbers ≤ p → getD (written j b out) p nan ≡ getD out p nan
 unfolding written
-put-past j b out p h = by (ltb j (length out / width)) _ (others out (width * j) p _ _ _ _ _ _ h)
+put-past j b out p h = by (ltb j (length out / betweenNumbers)) _ (others out (betweenNumbers * j) p _ _ _ _ _ _ h)
   where
     by : (t : Bool) (new : List Float) → getD new p nan ≡ getD out p nan → getD (cond t new out) p nan ≡ getD out p nan
     by true new e = e
     by false new e = refl
 
-each-past : (l : List Float) (j k : ℕ) (ts out : List Float) (p : ℕ) → width * (j + length ts) ≤ p → getD (writtenAll l j k ts out) p nan ≡ getD out p nan
+each-past : (l : List Float) (j k : ℕ) (ts out : List Float) (p : ℕ) → betweenNumbers * (j + length ts) ≤ p → getD (writtenAll l j k ts out) p nan ≡ getD out p nan
 unfolding writtenAll
 each-past l j k [] out p h = refl
 each-past l j k (t ∷ ts) out p h =
@@ -74,5 +74,5 @@ pub room-for-all : RoomForAll
 unfolding judged isMisshapen
 room-for-all times samples out e j h =
     let shaped = well-shaped (isMisshapen times samples out) (ltb (countOf samples) 2) (anyOutside (endsOf samples) times) e in
-    let fits : width * length times ≤ length out = ltb-false (length out) (width * length times) (second (not (eqb (length samples % 10) 0)) _ shaped) in
+    let fits : betweenNumbers * length times ≤ length out = ltb-false (length out) (betweenNumbers * length times) (second (not (eqb (length samples % 10) 0)) _ shaped) in
     omega arith

@@ -8,20 +8,20 @@ use lib.Ieee.{Float, nan}
 use Rattle.refusals.specs.declared.Told.the-variants.{Written}
 use Rattle.dense.specs.Table.{countOf, nans, timeOf}
 use Rattle.dense.specs.Intervals.{isForward, endsOf, isShort, intervalOf, walkedTo}
-use Rattle.dense.specs.Interpolation.{width, judged, isOutside, valueAt, interpolated, batched}
+use Rattle.dense.specs.Interpolation.{betweenNumbers, judged, isOutside, valueAt, interpolated, batched}
 
 -- "output past 6 numbers a time is untouched" (Places)
 abbrev pub PastUntouched : Type 0
 PastUntouched =
-    (times samples out : List Float) (p : ℕ) → width * length times ≤ p → getD (batched times samples out) p nan ≡ getD out p nan
+    (times samples out : List Float) (p : ℕ) → betweenNumbers * length times ≤ p → getD (batched times samples out) p nan ≡ getD out p nan
 
 abbrev pub PastUntouchedOne : Type 0
-PastUntouchedOne = (t : Float) (samples out : List Float) (p : ℕ) → width ≤ p → getD (interpolated t samples out) p nan ≡ getD out p nan
+PastUntouchedOne = (t : Float) (samples out : List Float) (p : ℕ) → betweenNumbers ≤ p → getD (interpolated t samples out) p nan ≡ getD out p nan
 
 -- Where a call writes, every time has its place, so that `put` leaves out none (Places)
 abbrev pub RoomForAll : Type 0
 RoomForAll =
-    (times samples out : List Float) → judged times samples out ≡ Written → (j : ℕ) → j < length times → j < length out / width
+    (times samples out : List Float) → judged times samples out ≡ Written → (j : ℕ) → j < length times → j < length out / betweenNumbers
 
 -- "A NaN time is not refused and gives NaN" (Nans)
 abbrev pub NanNotRefused : Type 0

@@ -21,6 +21,15 @@ slice-write-out-5 c = simp length-set (search needs)
 slice-write-out-6 : tie.Need-slice-write-out-6
 slice-write-out-6 c = simp length-set (search needs)
 
+slice-write-out-7 : tie.Need-slice-write-out-7
+slice-write-out-7 c = simp length-set (search needs)
+
+slice-write-out-8 : tie.Need-slice-write-out-8
+slice-write-out-8 c = simp length-set (search needs)
+
+slice-write-out-9 : tie.Need-slice-write-out-9
+slice-write-out-9 c = simp length-set (search needs)
+
 same-length : tie.Need-same-length
 same-length c = simp length-set
 
@@ -54,6 +63,15 @@ store-spec =
     (λ c. search needs)
     (λ c. search needs)
     slice-write-out-6
+    (λ c. search needs)
+    (λ c. search needs)
+    slice-write-out-7
+    (λ c. search needs)
+    (λ c. search needs)
+    slice-write-out-8
+    (λ c. search needs)
+    (λ c. search needs)
+    slice-write-out-9
     same-length
     returns
     returns-2)
