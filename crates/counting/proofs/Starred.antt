@@ -8,11 +8,11 @@ use mathlib.Core.List.{List, [], _∷_}
 use lib.ListN.{length}
 use lib.Ieee.{Float, binary64, ofInt, round, neg, add, sub, mul, div, lt, le, eq}
 use Rattle.triple.specs.declared.Triple.{Triple}
-use Rattle.triple.specs.Arithmetic.{nought, plus, minus, times}
+use Rattle.triple.specs.Arithmetic.{nought, plus, minus, times, over}
 use Rattle.triple.specs.Size.{absolute}
 use Rattle.triple.specs.Finite.{isFinite}
 use Rattle.refusals.specs.Numbers.{numberOf}
-use Rattle.quintic.specs.Quintic.{delta1, delta2, delta3, curveOf, positionOn, velocityOn, quinticHermite}
+use Rattle.quintic.specs.Quintic.{delta1, delta2, delta3, curveOf, positionOn, velocityOn, accelerationOn, quinticHermite}
 use Rattle.startup.specs.Points.{offset, timeAt}
 use Rattle.plan.specs.declared.Settings.{Settings}
 use Rattle.plan.specs.declared.Plan.{Plan}
@@ -91,7 +91,7 @@ expectedRows [] = []
 expectedRows (r ∷ rs) = r .expected ∷ expectedRows rs
 
 rows-agree : foretoldRows starredRows ≡ expectedRows starredRows
-unfolding foretoldRows expectedRows foretold foretoldBy verdictOn faultOf isLawful isDated isFinite ofFate areWithinLimits wantsSamples isTooNear planOf directionOf runFate fateRun pick isDue isTail leftAt timeAt offset allTimes timesUpTo sampleTime gridTime clock most plainSteps tailAnswers stepsOf absolute quinticHermite positionOn velocityOn curveOf delta1 delta2 delta3 plus minus times ofInt round add sub mul div neg lt le eq
+unfolding foretoldRows expectedRows foretold foretoldBy verdictOn faultOf isLawful isDated isFinite ofFate areWithinLimits wantsSamples isTooNear planOf directionOf runFate fateRun pick isDue isTail leftAt timeAt offset allTimes timesUpTo sampleTime gridTime clock most plainSteps tailAnswers stepsOf absolute quinticHermite positionOn velocityOn accelerationOn curveOf delta1 delta2 delta3 plus minus times over ofInt round add sub mul div neg lt le eq
 rows-agree = refl
 
 -- ---- the law: what is foretold comes out

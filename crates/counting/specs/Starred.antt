@@ -24,7 +24,7 @@ pub data Expected : Type 0 where
   no-run : (refusal : ℕ) → Expected  -- the start is refused
   finishes : (t : Float) → (steps answers : ℕ) → (times : List Float) → Expected  -- and the times of all samples
   exceeds-at : (answers : ℕ) → Expected  -- refusal 2 to this answer
-  reads : Between → Expected  -- position and velocity
+  reads : Between → Expected  -- position, velocity and acceleration
 
 -- number n of a row
 unfoldable pub At : List Float → ℕ → Float → Type 0
@@ -114,10 +114,11 @@ starredRows =
     ∷ row 0 (whole 8) (pos 1) 0 0 (exceeds-at 49)
     -- 01 has this row as "finished after startup"; W-202: "the NaN example of 01 becomes this refusal"
     ∷ row 0 nan (pos 1) maxSteps 0 (no-run 12)
-    -- "Quintic, 0 to 1, one component, r v a = 0 0 0 and 1 5 20, at 0.5: 0.03125 and 0.3125": 2 ^ -1, 2 ^ -5 and 5 * 2 ^ -4
+    -- "Quintic, 0 to 1, one component, r v a = 0 0 0 and 1 5 20, at 0.5: 0.03125 and 0.3125", and since W-203 2.5: at 2 ^ -1, 2 ^ -5, 5 * 2 ^ -4
+    -- and 5 * 2 ^ -1
     ∷ record {
       example = curve (sample 0 0 0 0) (sample 1 1 5 20) (fin false 1 (negsuc 0));
-      expected = reads (record { r = each (fin false 1 (negsuc 4)); v = each (fin false 5 (negsuc 3)) });
+      expected = reads (record { r = each (fin false 1 (negsuc 4)); v = each (fin false 5 (negsuc 3)); a = each (fin false 5 (negsuc 0)) });
     }
     ∷ []
 

@@ -50,7 +50,7 @@ unfoldable pub valueAt : List Float → ℕ → Float → Between
 valueAt l k t = quinticHermite (sampleOf l k) (sampleOf l (k + 1)) t
 
 -- the numbers from place p on
-abbrev putFrom : ℕ → Between → List Float → List Float
+abbrev pub putFrom : ℕ → Between → List Float → List Float
 putFrom p b out =
     set (set (set (set (set (set (set (set (set out
     p (b .r .x)) (p + 1) (b .r .y)) (p + 2) (b .r .z))

@@ -4,8 +4,8 @@ use mathlib.Core.Bool.{false}
 use lib.Ieee.{Float, nan, inf, fin, binary64, add, sub, mul, div, lt}
 use Rattle.triple.specs.declared.Triple.{Triple}
 use Rattle.triple.specs.declared.Sample.{Sample}
-use Rattle.triple.specs.Arithmetic.{plus, times}
-use Rattle.quintic.specs.Quintic.{positionOn, velocityOn, quinticHermite}
+use Rattle.triple.specs.Arithmetic.{plus, times, over}
+use Rattle.quintic.specs.Quintic.{positionOn, velocityOn, accelerationOn, quinticHermite}
 use Rattle.dense.specs.Table.{nans}
 use Rattle.dense.specs.Intervals.{endsOf}
 use Rattle.dense.specs.Interpolation.{isOutside, valueAt}
@@ -45,9 +45,13 @@ plus-nans : (a : Triple) → plus a nans ≡ nans
 unfolding plus
 plus-nans a = rw (add-nan (a .x), add-nan (a .y), add-nan (a .z))
 
-curve-nan : (from to : Sample) → quinticHermite from to nan ≡ record { r = nans; v = nans }
-unfolding quinticHermite positionOn velocityOn sub add div mul
-curve-nan from to = simp (mul-nan, times-nan, plus-nans)
+over-nans : (k : Float) → over nans k ≡ nans
+unfolding over div
+over-nans k = refl
+
+curve-nan : (from to : Sample) → quinticHermite from to nan ≡ record { r = nans; v = nans; a = nans }
+unfolding quinticHermite positionOn velocityOn accelerationOn sub add div mul
+curve-nan from to = simp (mul-nan, times-nan, plus-nans, over-nans)
 
 pub nan-gives-nan : NanGivesNan
 unfolding valueAt

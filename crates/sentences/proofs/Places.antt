@@ -9,32 +9,35 @@ use lib.ListN.{length, getD, set}
 use lib.Seq.{getD-set-other}
 use lib.Ieee.{Float, nan}
 use borrow.Author.Tests.{ltb-false}
+use Rattle.triple.specs.declared.Triple.{Triple}
 use Rattle.quintic.specs.declared.Between.{Between}
 use Rattle.refusals.specs.declared.Refusal.the-variants.{NoDenseOutput, InterpOutOfBounds, Shape}
 use Rattle.refusals.specs.declared.Told.{Told}
 use Rattle.refusals.specs.declared.Told.the-variants.{Written, Refused}
 use Rattle.dense.specs.Table.{countOf}
 use Rattle.dense.specs.Intervals.{endsOf, intervalOf, walkedTo}
-use Rattle.dense.specs.Interpolation.{betweenNumbers, isMisshapen, anyOutside, judged, valueAt, written, writtenAll, unless, interpolated, batched}
+use Rattle.dense.specs.Interpolation.{betweenNumbers, putFrom, isMisshapen, anyOutside, judged, valueAt, written, writtenAll, unless, interpolated, batched}
 use Rattle.sentences.specs.Sentences.{PastUntouched, PastUntouchedOne, RoomForAll}
 
 other : (l : List Float) (i : ℕ) (x : Float) (p : ℕ) → i < p → getD (set l i x) p nan ≡ getD l p nan
 other l i x p h = getD-set-other l i p x nan (λ e. omega arith)
 
-others : (l : List Float) (q p : ℕ) (a b c d e f : Float) → q + 6 ≤ p →
-    getD (set (set (set (set (set (set l q a) (q + 1) b) (q + 2) c) (q + 3) d) (q + 4) e) (q + 5) f) p nan ≡ getD l p nan
-others l q p a b c d e f h =
-    let h0 : q < p = omega arith in
-    let h1 : q + 1 < p = omega arith in
-    let h2 : q + 2 < p = omega arith in
-    let h3 : q + 3 < p = omega arith in
-    let h4 : q + 4 < p = omega arith in
-    let h5 : q + 5 < p = omega arith in
-    rw (other, other, other, other, other, other)
+-- three numbers
+three : (l : List Float) (i j k p : ℕ) (t : Triple) → i < p → j < p → k < p → getD (set (set (set l i (t .x)) j (t .y)) k (t .z)) p nan ≡ getD l p nan
+three l i j k p t hi hj hk = rw (other, other, other)
+
+-- position, velocity and acceleration from place q on
+others : (l : List Float) (q p : ℕ) (b : Between) → q + betweenNumbers ≤ p → getD (putFrom q b l) p nan ≡ getD l p nan
+others l q p b h =
+    let at-r = three l q (q + 1) (q + 2) p (b .r) (omega arith) (omega arith) (omega arith) in
+    let put-r = set (set (set l q (b .r .x)) (q + 1) (b .r .y)) (q + 2) (b .r .z) in
+    let at-v = three put-r (q + 3) (q + 4) (q + 5) p (b .v) (omega arith) (omega arith) (omega arith) in
+    let put-v = set (set (set put-r (q + 3) (b .v .x)) (q + 4) (b .v .y)) (q + 5) (b .v .z) in
+    three put-v (q + 6) (q + 7) (q + 8) p (b .a) (omega arith) (omega arith) (omega arith) ∙ at-v ∙ at-r
 
 put-past : (j : ℕ) (b : Between) (out : List Float) (p : ℕ) → betweenNumbers * j + betweenNumbers ≤ p → getD (written j b out) p nan ≡ getD out p nan
 unfolding written
-put-past j b out p h = by (ltb j (length out / betweenNumbers)) _ (others out (betweenNumbers * j) p _ _ _ _ _ _ h)
+put-past j b out p h = by (ltb j (length out / betweenNumbers)) _ (others out (betweenNumbers * j) p b h)
   where
     by : (t : Bool) (new : List Float) → getD new p nan ≡ getD out p nan → getD (cond t new out) p nan ≡ getD out p nan
     by true new e = e

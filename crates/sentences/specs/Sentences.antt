@@ -10,7 +10,7 @@ use Rattle.dense.specs.Table.{countOf, nans, timeOf}
 use Rattle.dense.specs.Intervals.{isForward, endsOf, isShort, intervalOf, walkedTo}
 use Rattle.dense.specs.Interpolation.{betweenNumbers, judged, isOutside, valueAt, interpolated, batched}
 
--- "output past 6 numbers a time is untouched" (Places)
+-- "output past 6 numbers a time is untouched", nine since W-203 (Places)
 abbrev pub PastUntouched : Type 0
 PastUntouched =
     (times samples out : List Float) (p : ℕ) → betweenNumbers * length times ≤ p → getD (batched times samples out) p nan ≡ getD out p nan
@@ -28,7 +28,7 @@ abbrev pub NanNotRefused : Type 0
 NanNotRefused = (l : List Float) → isOutside (endsOf l) nan ≡ false
 
 abbrev pub NanGivesNan : Type 0
-NanGivesNan = (l : List Float) (k : ℕ) → valueAt l k nan ≡ record { r = nans; v = nans }
+NanGivesNan = (l : List Float) (k : ℕ) → valueAt l k nan ≡ record { r = nans; v = nans; a = nans }
 
 -- "At an inner sample time the first uses the interval that starts there, a fresh batch the one that ends there" (Inner).
 -- Sample n stands apart: every time before it is strictly short of its own, and its own of the next; as where the times are in strict order.
