@@ -12,7 +12,7 @@ use Rattle.triple.specs.Finite.{isFinite}
 use Rattle.startup.specs.Points.{offset, timeAt}
 use Rattle.plan.specs.declared.Plan.{Plan}
 use Rattle.plan.specs.Plan.{directionOf, isTooNear}
-use Rattle.plan.proofs.Dates.{has-value}
+use Rattle.triple.proofs.Finite.{has-value}
 use Rattle.run.specs.Formulas.{leftAt, isDue, isTail}
 use Rattle.rules.specs.Asked.{clock}
 use Rattle.whole.proofs.Exact.{Is, move, sub-whole, lt-whole, nought-whole}

@@ -16,6 +16,7 @@ use Rattle.triple.specs.declared.Point.{Point}
 use Rattle.triple.specs.Arithmetic.{nought, zeros, plus, minus, times}
 use Rattle.triple.specs.Size.{absolute, largerOf, sizeOf}
 use Rattle.triple.specs.Nine.{at, nineZeros, slid}
+use Rattle.triple.specs.Doubles.{Double, Doubles}
 use Rattle.rk4.specs.Rk4.{endOfStep}
 use Rattle.sums.specs.declared.Sums.{Sums}
 use Rattle.sums.specs.declared.Fixed.{Fixed}
@@ -24,7 +25,6 @@ use Rattle.sums.specs.Sums.{onSums, pointOf, predictedState, fixedOf, corrected
 use Rattle.startup.specs.declared.Places.{Places}
 use Rattle.startup.specs.declared.Widest.{Widest}
 use Rattle.startup.specs.Points.{timeAt, placed}
-use Rattle.resumed.specs.Outside.{Double, Doubles}
 use Rattle.startup.specs.Passes.{sumsOn, lastSums, tiny, widened, calmAt, pointOn, pointBack, pointsOn, pointsBack, passPlaces}
 
 abbrev pub F : Float → Type 0

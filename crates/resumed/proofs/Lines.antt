@@ -24,7 +24,7 @@ use Rattle.blocks.specs.Blocks.{isWhole}
 use Rattle.stored.specs.Stored.{storing, storedIn, takenUp, loaded}
 use Rattle.stored.specs.Trips.{cleaned}
 use Rattle.stored.proofs.Cleaned.{sound-same, stored-is-loaded}
-use Rattle.resumed.specs.Outside.{Doubles}
+use Rattle.triple.specs.Doubles.{Doubles}
 use Rattle.resumed.specs.Lines.{Event, call, put-away, take-up, blank, addedBy, added, loadHeard, played, kept, backTo, followed, CallsDoubles, FollowsWithForms}
 use Rattle.resumed.proofs.Going.{GoodRun, answered-good, started-good}
 use Rattle.resumed.proofs.Machine.{machine, clean-good}

@@ -18,7 +18,8 @@ use Rattle.gauss_jackson.specs.Answers.{answered, started}
 use Rattle.rules.specs.Walk.{question, refused, told, Call, Result, Line, open-at, over, Stop, called, begin}
 use Rattle.rules.specs.Follows.{heard}
 use Rattle.stored.specs.Stored.{storing, storedIn, loaded}
-use Rattle.resumed.specs.Outside.{Doubles, Outside}
+use Rattle.triple.specs.Doubles.{Doubles}
+use Rattle.resumed.specs.Outside.{Outside}
 
 -- what befalls a run: a call of `answer`; the run is put away as a further form; form k, counted from 0, is taken up
 pub data Event : Type 0 where

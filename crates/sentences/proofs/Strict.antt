@@ -10,7 +10,7 @@ use borrow.Author.Tests.{le-ltb, ltb-true, eqb-true, eq-eqb, ne-eqb}
 use Rattle.dense.specs.Intervals.{reached, isShort}
 use Rattle.sentences.proofs.Nans.{none-above}
 
-clash : {A : Type 0} → false ≡ true → A
+pub clash : {A : Type 0} → false ≡ true → A
 clash e = let z : _≡_ {A = ℕ} 0 1 = cc in absurd (omega arith)
 
 lt-le : (x y : Float) → lt x y ≡ true → le x y ≡ true

@@ -1,4 +1,4 @@
--- What is left of a number less itself; `is_finite` turns on it.
+-- Finite numbers; and what is left of a number less itself, on which `is_finite` turns.
 use mathlib.Core.Path.{_≡_, refl, ap, _∙_}
 use Prim.Native.Nat.{ℕ, _-_, _*_, _<_}
 use native.Mathlib.Nat.{mul-pos, sub-self}
@@ -7,11 +7,19 @@ use mathlib.Core.Bool.{Bool, true, false, not, cond}
 use lib.IntN.{pos}
 use lib.Dec.{ltb}
 use lib.Ieee.{Float, nan, inf, fin, binary64, up, down, round, sum, neg, add, sub, eq}
+use lib.Ieee.Exact.{HasValue}
 use lib.Ieee.Fits.{down-pos}
 use lib.Ieee.Scale.{round-same}
 use borrow.Author.Tests.{le-ltb}
 use Rattle.triple.specs.Arithmetic.{nought}
 use Rattle.triple.specs.Finite.{isFinite}
+
+-- what has a value is finite
+pub has-value : (x : Float) (s : Bool) (a c : ℕ) → HasValue x s a c → isFinite x ≡ true
+unfolding isFinite
+has-value nan s a c h = absurd h
+has-value (inf t) s a c h = absurd h
+has-value (fin t m e) s a c h = refl
 
 pub zero-round : (s : Bool) (c : ℕ) → 0 < c → round binary64 s 0 c ≡ fin s 0 (pos 0)
 unfolding round

@@ -3,3 +3,4 @@ pub mod Size
 pub mod Finite
 pub mod Nine
 pub mod Sampled
+pub mod Doubles
