@@ -23,13 +23,15 @@ void plain_run(const task *task, gj_reply *end);
 /* The proved library, asked and answered. */
 void library_run(const task *task, gj_reply *end);
 
-/* Times between samples: one by one, or all in one batch. Six numbers a time go to `rows`. */
+/* Times between samples: one by one, or all in one batch. The numbers of time j go to `rows` from width * j on; the module tells no
+ * accelerations, and leaves their places alone. */
 typedef struct reading {
     const double *times;
     size_t k;
     const double *samples;
     size_t n;
     double *rows;
+    size_t width; /* GJ_BETWEEN_NUMBERS, for the module's side too */
 } reading;
 
 uint32_t module_read(const reading *reading, bool batch);

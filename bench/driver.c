@@ -1,5 +1,6 @@
 /* SPDX-License-Identifier: MIT OR Apache-2.0 */
-/* driver COLUMN WORK: does one work in one column, and prints a line: answers or times read, seconds, and a digest of all results.
+/* driver COLUMN WORK: does one work in one column, and prints a line: answers or times read, seconds, and a digest of all results (of the
+ * accelerations between samples one of its own).
  *   COLUMN  module, plain, library; none, which does all but the work, so that its instructions can be taken away
  *   WORK    year, year-defaults, day, single, batch; store-POINT and load-POINT, which the module has not, at a POINT of POINTS below */
 #include "bench.h"
@@ -89,19 +90,30 @@ static void run_days(const column *c) {
     tell(DAYS * end.evals, seconds, digest(out, sizeof out, digest(&end, sizeof end, 14695981039346656037u)));
 }
 
+/* What was read off: positions and velocities in one number, accelerations, which the module has not, in another. */
+static void tell_rows(double seconds, const double *rows) {
+    uint64_t states = 14695981039346656037u, accelerations = states;
+    for (int i = 0; i < READINGS; i++) {
+        const gj_triple *row = (const gj_triple *)(rows + GJ_BETWEEN_NUMBERS * i);
+        states = digest(row, 2 * sizeof *row, states);
+        accelerations = digest(row + 2, sizeof *row, accelerations);
+    }
+    printf("%d %.6f %016llx %016llx\n", READINGS, seconds, (unsigned long long)states, (unsigned long long)accelerations);
+}
+
 /* A million times across a day's samples, in the order of time. */
 static void read_off(const column *c, bool batch) {
-    static double out[NUMBERS], times[READINGS], rows[6 * READINGS];
+    static double out[NUMBERS], times[READINGS], rows[GJ_BETWEEN_NUMBERS * READINGS];
     task k = day(out);
     gj_reply end;
     plain_run(&k, &end);
     for (int i = 0; i < READINGS; i++) times[i] = k.tf * i / READINGS;
-    reading in = {times, READINGS, out, NUMBERS, rows};
+    reading in = {times, READINGS, out, NUMBERS, rows, GJ_BETWEEN_NUMBERS};
     double began = now();
     uint32_t refusal = c->read(&in, batch);
     double seconds = now() - began;
     if (refusal != 0) exit(3);
-    tell(READINGS, seconds, digest(rows, sizeof rows, 14695981039346656037u));
+    tell_rows(seconds, rows);
 }
 
 /* A run that waits there: with samples, every pass and a tail. */

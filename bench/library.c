@@ -14,10 +14,10 @@ void library_run(const task *task, gj_reply *end) {
 
 uint32_t library_read(const reading *in, bool batch) {
 #if GJ_DENSE
-    if (batch) return gj_interpolate_batch(in->times, in->k, in->samples, in->n, in->rows, 6 * in->k);
+    if (batch) return gj_interpolate_batch(in->times, in->k, in->samples, in->n, in->rows, GJ_BETWEEN_NUMBERS * in->k);
     uint32_t refusal = 0;
     for (size_t j = 0; j < in->k && refusal == 0; j++)
-        refusal = gj_interpolate(in->times[j], in->samples, in->n, in->rows + 6 * j, 6);
+        refusal = gj_interpolate(in->times[j], in->samples, in->n, in->rows + GJ_BETWEEN_NUMBERS * j, GJ_BETWEEN_NUMBERS);
     return refusal;
 #else
     (void)in, (void)batch;

@@ -49,6 +49,7 @@ pub struct Reading {
     samples: *const f64,
     n: usize,
     rows: *mut f64,
+    width: usize,
 }
 
 fn three(v: &V3) -> [f64; 3] {
@@ -94,14 +95,14 @@ fn table(numbers: &[f64]) -> GJDenseOutput<f64, 3> {
 
 fn write(row: &mut [f64], r: &V3, v: &V3) {
     row[..3].copy_from_slice(&three(r));
-    row[3..].copy_from_slice(&three(v));
+    row[3..][..3].copy_from_slice(&three(v));
 }
 
 #[no_mangle]
 pub unsafe extern "C" fn module_read(reading: &Reading, batch: bool) -> u32 {
     let times = std::slice::from_raw_parts(reading.times, reading.k);
     let dense = table(std::slice::from_raw_parts(reading.samples, reading.n));
-    let rows = std::slice::from_raw_parts_mut(reading.rows, 6 * reading.k).chunks_mut(6);
+    let rows = std::slice::from_raw_parts_mut(reading.rows, reading.width * reading.k).chunks_mut(reading.width);
     if batch {
         let all = GaussJackson8::interpolate_batch(times, &dense).expect("the times lie between samples");
         rows.zip(&all).for_each(|(row, (r, v))| write(row, r, v));

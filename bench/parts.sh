@@ -74,14 +74,21 @@ measure() { drive "$1" "$2" run >"$out/$1.$2"; }
 # takes some instructions more or less by how it lies.
 count() { drive "$1" "$2" env -i "$counter" -plugin "$out/count.so,to=$out/$1.$2.count" >/dev/null; }
 
-# Of the columns that have the work: each has what the first has.
-same_results() {
-    first=
-    for column in $(columns_of "$1"); do
-        results=$(cut -d' ' -f1,3 "$out/$column.$1")
-        [ -n "$first" ] || { first=$column wanted=$results; }
-        [ "$results" = "$wanted" ] || { echo "$1: the results of $column are not those of $first" >&2; exit 1; }
+# WORK FIELDS COLUMN..: those fields of each column's line are those of the first one's.
+same_fields() {
+    work=$1 fields=$2 first=$3
+    shift 3
+    wanted=$(cut -d' ' -f"$fields" "$out/$first.$work")
+    for column; do
+        [ "$(cut -d' ' -f"$fields" "$out/$column.$work")" = "$wanted" ] ||
+            { echo "$work: the results of $column are not those of $first" >&2; exit 1; }
     done
+}
+
+# Of the columns that have the work: each has what the first has. The module tells no accelerations between samples.
+same_results() {
+    same_fields "$1" 1,3 $(columns_of "$1")
+    case $1 in single | batch) same_fields "$1" 4 plain library ;; esac
 }
 
 # WORK OF FORM MODULE MODULE-1 PLAIN LIBRARY, a column that has not the work being '-'
