@@ -21,7 +21,7 @@
  * The library, measured by tests/symbols/run and tests/stack/run: x86-64 Linux, System V calls, position-independent; needs memcpy and
  * memset and nothing else; has no data of its own, so threads may call it at the same time on runs of their own; exports gj_* alone.
  * Nothing is allocated. A call takes at most 32 KiB of stack: at last count an answer 24,728 bytes in the startup and 18,024 afterwards, a
- * start 5,416, an open question 3,864, a storing 5,288, a loading 10,280, an interpolation under 400. (Where the program's loader looks for
+ * start 5,416, an open question 3,864, a storing 5,288, a loading 10,280, an interpolation under 500. (Where the program's loader looks for
  * memcpy only when it is first called, that call takes some 3,000 more.)
  *
  * What the caller owes, since no proof reaches it:
@@ -54,9 +54,14 @@
 /* The version, and the number of what is laid down between header and library: it goes up when a size, a place or a call changes. Each is
  * set here alone. Calls that are added change nothing for programs built before, so the number stays; a program that uses one does not
  * link with an older library: "undefined reference to gj_store". A refusal that is added is a number for which an older header has no name:
- * 12, from 0.4.0 on. */
-#define GJ_VERSION "0.4.0"
-#define GJ_ABI 1
+ * 12, from 0.4.0 on.
+ *
+ * GJ_ABI is 2 from 0.5.0 on: an interpolation tells the acceleration too, GJ_BETWEEN_NUMBERS a time, nine where they were six. An output of
+ * six is refused (9), so no older caller's memory could be overrun. But one that has more room, kept for many times perhaps, would find its
+ * numbers in other places and read an acceleration as a position. So a program built with an older header does not link: "undefined
+ * reference to gj_abi_1". */
+#define GJ_VERSION "0.5.0"
+#define GJ_ABI 2
 
 #ifdef __cplusplus
 #define GJ_HOLDS(fact, said) static_assert(fact, said)
@@ -85,7 +90,7 @@ enum {
                                      room for n samples at every call n of them, none if n is below 5 */
     GJ_NO_QUESTION = 7,           /* answer, open question, storing: the run has ended, or is made up; run, samples, bytes unchanged */
     GJ_NOT_THAT_QUESTION = 8,     /* answer: the number is not the open question's; run and samples unchanged, answer again */
-    GJ_SHAPE = 9,                 /* interpolation: samples not in tens, or output below 6 numbers a time; untouched */
+    GJ_SHAPE = 9,                 /* interpolation: samples not in tens, or output below GJ_BETWEEN_NUMBERS a time; untouched */
     GJ_STORED_SHAPE = 10,         /* storing: the buffer has not GJ_STORED_SIZE bytes; untouched. Loading: not GJ_STORED_SIZE bytes, or a
                                      block's number or check is wrong: cut short, damaged, another file; the run is as it was */
     GJ_STORED_CONTENT = 11,       /* loading: whole blocks, but another form number, or what no run is; the run is as it was */
@@ -100,7 +105,7 @@ enum {
 
 enum {
     GJ_SAMPLE_NUMBERS = 10,   /* t, r.x r.y r.z, v.x v.y v.z, a.x a.y a.z */
-    GJ_BETWEEN_NUMBERS = 6,   /* what an interpolation writes a time: r.x r.y r.z, v.x v.y v.z */
+    GJ_BETWEEN_NUMBERS = 9,   /* what an interpolation writes a time: r.x r.y r.z, v.x v.y v.z, a.x a.y a.z */
     GJ_STORED_SIZE = 2048     /* bytes of a run that is put away */
 };
 
@@ -203,14 +208,16 @@ uint32_t gj_store(const gj_run *run, uint8_t *out, size_t out_bytes);
  *   - Stored again at once, a loaded form gives the same bytes, NaN aside: other patterns of NaN than the one above come back as that. */
 gj_reply gj_load(gj_run *run, const uint8_t *bytes, size_t bytes_count);
 
-/* Position and velocity at time t between the samples: 6 numbers to `out`. `samples` has `n` numbers, ten a sample, as gj_answer
- * wrote them; `out` has room for `m`. Gives 0, or refusal 9, 3 or 4, and then nothing is written. A NaN time gives six NaN.
+/* Position, velocity and acceleration at time t between the samples: GJ_BETWEEN_NUMBERS to `out`, and nothing past them. `samples` has `n`
+ * numbers, ten a sample, as gj_answer wrote them; `out` has room for `m`. Gives 0, or refusal 9, 3 or 4, and then nothing is written. A NaN
+ * time gives nine NaN. All three are read off one quintic, which holds the acceleration less well than the position: in a low orbit by steps
+ * of 60 s it is off by up to 1e-7 m/s^2 (1.2e-8 of itself), the position by 2e-5 m. README has a table.
  * It looks at the samples one after the other from the first, at six instructions each, so on a long table a late time is dear (three
  * million at the end of a year of minutes): pass the part of the table around the time, two samples are enough, or take the batch. */
 uint32_t gj_interpolate(double t, const double *samples, size_t n, double *out, size_t m);
 
-/* The same for `k` times, in the order in which the run went: 6 numbers a time, the first six for the first time. Nothing is written
- * unless every time lies within the samples. The search goes once through the table and never back: a time out of order gets a
+/* The same for `k` times, in the order in which the run went: GJ_BETWEEN_NUMBERS a time, the first of them for the first time. Nothing is
+ * written unless every time lies within the samples. The search goes once through the table and never back: a time out of order gets a
  * meaningless number, read off a later curve, and no refusal. Sort the times first. */
 uint32_t gj_interpolate_batch(const double *times, size_t k, const double *samples, size_t n, double *out, size_t m);
 

@@ -32,7 +32,7 @@ static inline const char *gj_refusal_text(unsigned refusal) {
     case GJ_SAMPLE_ROOM: return "the samples due now do not all fit in the buffer; the run has ended, this call wrote none";
     case GJ_NO_QUESTION: return "no question is open: the run has ended, or its memory is not that of a run";
     case GJ_NOT_THAT_QUESTION: return "the answer's number is not that of the open question; the run waits as before";
-    case GJ_SHAPE: return "the samples are not in tens, or the output has fewer than six numbers a time";
+    case GJ_SHAPE: return "the samples are not in tens, or the output has too few numbers for its times";
     case GJ_STORED_SHAPE: return "there are not 2,048 bytes, or a block's number or check is wrong: cut short, damaged, or no stored run";
     case GJ_STORED_CONTENT: return "the blocks are whole, but hold no run: another form number, or what no run has";
     case GJ_BLANK_DATE: return "the start, the end or the step is not a finite number; look at the dates that went in";

@@ -10,6 +10,7 @@
 #include <string.h>
 
 static const double MU = 398600.4418, EARTH = 6378.137; /* the Earth's pull, and its radius at the equator */
+static const double TURN = 7.2921158553e-5; /* of the Earth, in radians a second; Greenwich lies on the x axis at the start */
 static const double COS_INCLINATION = 0.6211477802783103, SIN_INCLINATION = 0.7836934573258398; /* of 51.6 degrees */
 
 static inline double distance(gj_triple r) { return sqrt((r.x * r.x + r.y * r.y) + r.z * r.z); }

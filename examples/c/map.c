@@ -4,8 +4,6 @@
 
 enum { WIDTH = 72, ROWS = 24, EVERY = 20, MOST = 1500 };
 
-static const double TURN = 7.2921158553e-5; /* of the Earth, in radians a second; Greenwich lies on the x axis at the start */
-
 typedef char map[ROWS][WIDTH + 1];
 
 /* Land, roughly. */
@@ -83,7 +81,7 @@ uint32_t draw_track(const double *samples, int revolutions) {
     memcpy(letters, LAND, sizeof letters);
     for (int i = 0; i < count; i++) {
         const double *r = places + GJ_BETWEEN_NUMBERS * i;
-        if (i > 0 && r[-4] < 0.0 && r[2] >= 0.0) at++;
+        if (i > 0 && r[2 - GJ_BETWEEN_NUMBERS] < 0.0 && r[2] >= 0.0) at++;
         if (at > 0) mark_place(letters, times[i], r, (char)('0' + at));
     }
     mark_place(letters, times[count - 1], places + GJ_BETWEEN_NUMBERS * (count - 1), '@');

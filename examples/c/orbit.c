@@ -1,5 +1,6 @@
 /* SPDX-License-Identifier: MIT OR Apache-2.0 */
-/* An orbit 400 km up, carried forward for a day in one-minute steps, and read off between the steps.
+/* An orbit 400 km up, carried forward for a day in one-minute steps, and read off between the steps; what a ground station needs of it to
+ * plan its radio stands beside.
  *
  *   orbit           prints a table
  *   orbit --csv     prints every sample, for other programs
@@ -8,6 +9,7 @@
  * GJ_DENSE 0 builds it for a library without interpolation: the table then stands at samples.
  */
 #include "orbit.h"
+#include "station.h"
 
 #ifndef GJ_DENSE
 #define GJ_DENSE 1
@@ -26,7 +28,7 @@ static gj_reply carry_forward(double *samples) {
 /* Once an hour, and half a minute past: between two samples. */
 static double time_of(int row) { return 3600.0 * row + (GJ_DENSE ? 30.0 : 0.0); }
 
-/* Position and velocity at each row, six numbers a row; 0, or a refusal. */
+/* Position, velocity and acceleration at each row; 0, or a refusal. A sample has the same after its time. */
 static uint32_t read_off(const double *samples, double *rows) {
 #if GJ_DENSE
     double times[ROWS];
@@ -39,21 +41,29 @@ static uint32_t read_off(const double *samples, double *rows) {
 #endif
 }
 
-static void print_row(double t, const double *six) {
+static void print_row(double t, motion m) {
     int s = (int)t;
-    gj_triple r = {six[0], six[1], six[2]};
+    ranging to = range_to(m, t);
     printf("%02d:%02d:%02d", s / 3600, s / 60 % 60, s % 60);
-    printf("  %10.3f %10.3f %10.3f", six[0], six[1], six[2]);
-    printf("  %9.6f %9.6f %9.6f", six[3], six[4], six[5]);
-    printf("  %8.4f\n", distance(r) - EARTH);
+    printf("  %10.3f %10.3f %10.3f", m.r.x, m.r.y, m.r.z);
+    printf("  %9.6f %9.6f %9.6f", m.v.x, m.v.y, m.v.z);
+    printf("  %8.4f", distance(m.r) - EARTH);
+    printf("  %10.3f %9.6f %8.4f\n", to.range, to.rate, 1000.0 * to.change);
 }
 
-static void print_table(gj_reply end, const double *rows) {
-    printf("An orbit 400 km up, %d steps of a minute; %s.\n\n", STEPS, GJ_DENSE ? "read off between steps" : "read off at steps");
-    printf("    time       x km       y km       z km    vx km/s   vy km/s   vz km/s    height\n");
-    for (int row = 0; row < ROWS; row++) print_row(time_of(row), rows + GJ_BETWEEN_NUMBERS * row);
-    double six[] = {end.r.x, end.r.y, end.r.z, end.v.x, end.v.y, end.v.z};
-    print_row(end.t, six);
+/* The finished state has no acceleration: the last sample, at the same time, has it. */
+static void print_table(gj_reply end, const double *samples, const double *rows) {
+    printf("An orbit 400 km up, %d steps of a minute; %s.\n", STEPS, GJ_DENSE ? "read off between steps" : "read off at steps");
+    printf("Range, its rate and how fast the rate changes: from a station 45 degrees north by Greenwich, in its sight or not.\n\n");
+    printf("    time       x km       y km       z km    vx km/s   vy km/s   vz km/s    height    range km rate km/s   m/s^2\n");
+    for (int row = 0; row < ROWS; row++) {
+        motion m;
+        memcpy(&m, rows + GJ_BETWEEN_NUMBERS * row, sizeof m);
+        print_row(time_of(row), m);
+    }
+    motion last = {end.r, end.v, {0.0, 0.0, 0.0}};
+    memcpy(&last.a, samples + GJ_SAMPLE_NUMBERS * STEPS + 7, sizeof last.a);
+    print_row(end.t, last);
     printf("\nFinished at %.0f s: %llu steps, %llu answers, %llu startup passes.\n", end.t, (unsigned long long)end.steps,
            (unsigned long long)end.evals, (unsigned long long)end.startup_iters);
 }
@@ -104,6 +114,6 @@ int main(int argc, char **argv) {
     else if (csv == 1)
         print_samples(samples);
     else
-        print_table(end, rows);
+        print_table(end, samples, rows);
     return 0;
 }

@@ -5,6 +5,7 @@ use crate::cases::plain;
 use crate::force::{Source, V3};
 use crate::gauss_jackson::{GJDenseOutput, GJSolution, GaussJackson8};
 use crate::transcript::number;
+use crate::with_acceleration::interpolate;
 use numeris::ode::OdeError;
 use numeris::Vector;
 use std::io::{self, Write};
@@ -103,6 +104,8 @@ fn quintic(out: &mut impl Write) -> io::Result<()> {
         v: vec![one(0.0), one(5.0)],
         a: vec![one(0.0), one(20.0)],
     };
-    let (r, v) = GaussJackson8::interpolate(0.5, &dense).expect("0.5 lies between");
-    line(out, "quintic at 0.5", "0.03125 and 0.3125", &format!("{:?} and {:?}", r[0], v[0]))
+    let [r, v, a] = interpolate(0.5, &dense).expect("0.5 lies between");
+    line(out, "quintic at 0.5", "0.03125 and 0.3125", &format!("{:?} and {:?}", r[0], v[0]))?;
+    let verdict = if a[0] == 2.5 { "agrees" } else { "DIFFERS" };
+    writeln!(out, "{verdict}: its acceleration there, by W-203\n    expected: 2.5\n    second writing: {:?}", a[0])
 }

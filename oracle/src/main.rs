@@ -1,5 +1,6 @@
 // SPDX-License-Identifier: MIT OR Apache-2.0
-//! The judge that nobody here wrote: the Rust module itself, run on cases and printing what it asked and answered.
+//! The judge that nobody here wrote: the Rust module itself, run on cases and printing what it asked and answered. What the module has not is
+//! written a second time: refusal 12, and the acceleration between samples (tools/with_acceleration.rs).
 //!
 //!   oracle run              cases on standard input, transcripts on standard output
 //!   oracle examples         01's "Examples at the edges", each beside what the module does
@@ -17,6 +18,8 @@ mod orbit;
 mod random;
 mod tables;
 mod transcript;
+#[path = "../../tools/with_acceleration.rs"]
+mod with_acceleration;
 
 include!(concat!(env!("OUT_DIR"), "/module.rs"));
 

@@ -4,6 +4,7 @@
 use crate::force::V3;
 use crate::gauss_jackson::{GJSettings, GaussJackson8};
 use crate::transcript::hex;
+use crate::with_acceleration::interpolate_batch;
 use std::io::{self, Write};
 
 const MU: f64 = 398600.4418;
@@ -16,8 +17,8 @@ fn force(_: f64, r: &V3, _: &V3) -> V3 {
     V3::from_array([(-MU * r[0]) / cube, (-MU * r[1]) / cube, (-MU * r[2]) / cube])
 }
 
-fn six(r: &V3, v: &V3) -> String {
-    [r, v].iter().flat_map(|x| [x[0], x[1], x[2]]).map(|x| format!(" {}", hex(x))).collect()
+fn triples(all: &[V3]) -> String {
+    all.iter().flat_map(|x| [x[0], x[1], x[2]]).map(|x| format!(" {}", hex(x))).collect()
 }
 
 pub fn print(out: &mut impl Write) -> io::Result<()> {
@@ -28,13 +29,12 @@ pub fn print(out: &mut impl Write) -> io::Result<()> {
     let end = GaussJackson8::integrate(0.0, 86400.0, &r0, &v0, force, &settings).expect("a day of minutes finishes");
     let d = end.dense.as_ref().expect("samples were asked for");
     for n in 0..d.t.len() {
-        let a: String = (0..3).map(|i| format!(" {}", hex(d.a[n][i]))).collect();
-        writeln!(out, "sample {n} {}{}{a}", hex(d.t[n]), six(&d.r[n], &d.v[n]))?;
+        writeln!(out, "sample {n} {}{}", hex(d.t[n]), triples(&[d.r[n], d.v[n], d.a[n]]))?;
     }
-    writeln!(out, "done {}{} {} {} {}", hex(end.t), six(&end.r, &end.v), end.evals, end.steps, end.startup_iters)?;
+    writeln!(out, "done {}{} {} {} {}", hex(end.t), triples(&[end.r, end.v]), end.evals, end.steps, end.startup_iters)?;
     let times: Vec<f64> = (0..24).map(|hour| 3600.0 * hour as f64 + 30.0).collect();
-    for (r, v) in GaussJackson8::interpolate_batch(&times, d).expect("the times lie between samples") {
-        writeln!(out, "interp{}", six(&r, &v))?;
+    for told in interpolate_batch(&times, d).expect("the times lie between samples") {
+        writeln!(out, "interp{}", triples(&told))?;
     }
     Ok(())
 }

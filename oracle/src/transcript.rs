@@ -11,13 +11,14 @@
 //!   batch t..                several
 //!
 //! What comes back: `case NAME`, `ask` with number, t, r, v for each question, `sample` with number and ten floats, `done` with t, r, v, evals,
-//! steps, startup_iters, or `refused` with 01's or 02's number; `interp` with r and v; `bad line N` for any other line. Every NaN is written `nan`.
+//! steps, startup_iters, or `refused` with 01's or 02's number; `interp` with r, v and a; `bad line N` for any other line. Every NaN is written `nan`.
 //! The module cannot put a run away, and has no need to: with and without `away` the transcript is the same, by W-201. It takes a start, end or
 //! step that is a NaN or an infinity; its answers there leave the comparison, and such a case comes back as `refused 12`, by W-202. It knows no
-//! limits of settings (refusal 5), so no case here goes beyond them.
+//! limits of settings (refusal 5), so no case here goes beyond them. It tells no acceleration between samples: that is a second writing's.
 use crate::case::{read_float, Case};
 use crate::force::{Source, V3};
 use crate::gauss_jackson::{GJDenseOutput, GaussJackson8};
+use crate::with_acceleration::{interpolate, interpolate_batch, Told};
 use numeris::ode::OdeError;
 use std::io::{self, BufRead, Write};
 
@@ -113,12 +114,12 @@ fn read_table(words: &[&str]) -> Option<(String, Samples)> {
     Some((name.to_string(), d))
 }
 
-fn between(out: &mut impl Write, got: Result<Vec<(V3, V3)>, OdeError>) -> io::Result<()> {
+fn between(out: &mut impl Write, got: Result<Vec<Told<3>>, OdeError>) -> io::Result<()> {
     match got {
         Err(e) => writeln!(out, "refused {}", number(e)),
         Ok(all) => {
-            for (r, v) in all {
-                writeln!(out, "interp{}{}", floats(&three(&r)), floats(&three(&v)))?;
+            for [r, v, a] in all {
+                writeln!(out, "interp{}{}{}", floats(&three(&r)), floats(&three(&v)), floats(&three(&a)))?;
             }
             Ok(())
         }
@@ -143,8 +144,8 @@ fn take(words: &[&str], samples: &mut Samples, out: &mut impl Write) -> io::Resu
             }
             None => return Ok(false),
         },
-        ("at", Some(t)) if t.len() == 1 => between(out, GaussJackson8::interpolate(t[0], samples).map(|x| vec![x]))?,
-        ("batch", Some(ts)) => between(out, GaussJackson8::interpolate_batch(&ts, samples))?,
+        ("at", Some(t)) if t.len() == 1 => between(out, interpolate(t[0], samples).map(|x| vec![x]))?,
+        ("batch", Some(ts)) => between(out, interpolate_batch(&ts, samples))?,
         _ => return Ok(false),
     }
     Ok(true)

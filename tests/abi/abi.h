@@ -38,8 +38,12 @@ void layout_of_replies(void);
 void layout_of_runs(void);
 void results(void);
 void promises(void);
+void between(void);
 void stored_refusals(void);
 void stored_runs(void);
 int wrapper_failures(void);
+size_t wrapper_between_numbers(void);
+size_t wrapper_sample_numbers(void);
+size_t wrapper_stored_size(void);
 
 #endif

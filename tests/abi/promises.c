@@ -116,21 +116,6 @@ static void late_by_all_numbers(void) {
     check(gj_answer(&run, early.number, R0, 0, 0).kind == GJ_ASK, "an answer 65,536 questions late is not noticed");
 }
 
-/* Read off a later curve, without a refusal: not what the same time gives alone. */
-static void out_of_order(void) {
-#if GJ_DENSE
-    gj_run run;
-    double out[90], one[6], two[12], times[2] = {6.5, 2.5};
-    gj_settings s = plain();
-    s.samples = 1;
-    play(&run, gj_start(&run, s, 0.0, 8.0, R0, V0), out, 90, 1000);
-    check(gj_interpolate(2.5, out, 90, one, 6) == 0, "a time within the samples");
-    check(gj_interpolate_batch(times, 2, out, 90, two, 12) == 0, "a batch out of order is not refused");
-    check(two[6] != one[0], "a batch out of order gives another number");
-    check(gj_interpolate(2.5, out + 20, 20, two, 6) == 0 && memcmp(one, two, sizeof one) == 0, "two samples around the time are enough");
-#endif
-}
-
 void promises(void) {
     bytes_that_are_no_flag();
     texts();
@@ -139,5 +124,4 @@ void promises(void) {
     dates_that_are_none();
     dates_far_apart();
     late_by_all_numbers();
-    out_of_order();
 }

@@ -2,7 +2,6 @@
 /* What the calls give through the header: counts and refusals that document 01 names, buffers with and without room. */
 #include "abi.h"
 
-#include <math.h>
 #include <string.h>
 
 static gj_reply from_to(gj_run *run, gj_settings s, double t0, double tf) {
@@ -85,29 +84,9 @@ static void sample_room(void) {
     check(play(&run, from_to(&run, s, 0.0, 8.0), 0, 0, 1000).kind == GJ_DONE, "no buffer, no samples");
 }
 
-static void between(void) {
-#if GJ_DENSE
-    double table[20] = {0, 0, 0, 0, 0, 0, 0, 0, 0, 0, 1, 1, 1, 1, 5, 5, 5, 20, 20, 20}, out[13], times[2] = {0.5, 1.5};
-    out[6] = 7.0, out[12] = 8.0;
-    check(gj_interpolate(0.5, table, 20, out, 7) == 0 && out[2] == 0.03125 && out[3] == 0.3125 && out[6] == 7.0, "the quintic");
-    check(gj_interpolate(0.5, table, 19, out, 6) == GJ_SHAPE, "19 numbers: refusal 9");
-    check(gj_interpolate(0.5, table, 20, out, 5) == GJ_SHAPE, "room for five: refusal 9");
-    check(gj_interpolate(0.5, table, 10, out, 6) == GJ_NO_DENSE_OUTPUT, "one sample: refusal 3");
-    check(gj_interpolate(1.5, table, 20, out, 6) == GJ_INTERP_OUT_OF_BOUNDS, "past the end: refusal 4");
-    check(gj_interpolate(NAN, table, 20, out, 6) == 0 && isnan(out[0]) && isnan(out[5]), "at NaN: six NaN");
-    out[0] = 9.0;
-    check(gj_interpolate_batch(times, 2, table, 20, out, 12) == GJ_INTERP_OUT_OF_BOUNDS && out[0] == 9.0, "a batch: all or none");
-    times[1] = 1.0;
-    check(gj_interpolate_batch(times, 2, table, 20, out, 13) == 0 && out[0] == 0.03125 && out[12] == 8.0, "a batch of two");
-    check(out[6] == 1.0 && out[9] == 5.0, "the second time's six");
-    check(gj_interpolate_batch(0, 0, table, 20, 0, 0) == 0, "a batch of none");
-#endif
-}
-
 void results(void) {
     counts();
     refusals_of_a_start();
     refusals_of_an_answer();
     sample_room();
-    between();
 }

@@ -1,6 +1,6 @@
 // SPDX-License-Identifier: MIT OR Apache-2.0
 //! The safe crate over the real library: counts, states and every refusal that it can meet there.
-use gauss_jackson::{numbers_for, Refusal, Reply, Run, Settings, Triple, STORED_SIZE};
+use gauss_jackson::{numbers_for, Refusal, Reply, Run, Settings, Triple, BETWEEN_NUMBERS, SAMPLE_NUMBERS, STORED_SIZE};
 
 const PLAIN: Settings =
     Settings { h: 1.0, corrector_tol: 0.0, startup_tol: 0.0, max_corrector_iters: 1, max_startup_iters: 1, max_steps: 1_000_000, samples: false };
@@ -67,7 +67,7 @@ fn between() {
     let mut table = vec![0.0; 10];
     table.extend([1.0, 1.0, 1.0, 1.0, 5.0, 5.0, 5.0, 20.0, 20.0, 20.0]);
     let at = interpolate(0.5, &table).unwrap();
-    assert_eq!((at.r.z, at.v.x), (0.03125, 0.3125));
+    assert_eq!((at.r.z, at.v.x, at.a.y), (0.03125, 0.3125, 2.5));
     assert_eq!(interpolate_batch(&[0.5], &table), Ok(vec![at]));
     assert_eq!(interpolate_batch(&[], &table), Ok(vec![]));
     assert_eq!(interpolate(0.5, &table[1..]), Err(Refusal::Shape));
@@ -78,6 +78,22 @@ fn between() {
 
 #[cfg(not(feature = "dense"))]
 fn between() {}
+
+/// The crate's own sizes, for the header's.
+#[no_mangle]
+pub extern "C" fn wrapper_between_numbers() -> usize {
+    BETWEEN_NUMBERS
+}
+
+#[no_mangle]
+pub extern "C" fn wrapper_sample_numbers() -> usize {
+    SAMPLE_NUMBERS
+}
+
+#[no_mangle]
+pub extern "C" fn wrapper_stored_size() -> usize {
+    STORED_SIZE
+}
 
 /// How many of the parts failed; each says on standard error what it found.
 #[no_mangle]

@@ -2,16 +2,17 @@
 //! Random tables in order, forward and backward, and times between, at, and outside their samples: both interpolations, and their refusals.
 use crate::check::{holds, Verdict};
 use crate::force::V3;
-use crate::gauss_jackson::{GJDenseOutput, GaussJackson8};
+use crate::gauss_jackson::GJDenseOutput;
 use crate::random::Random;
-use crate::raw;
+use crate::raw::{self, BETWEEN_NUMBERS};
 use crate::record;
 use crate::room::Room;
 use crate::tally::Tally;
+use crate::with_acceleration::{interpolate, interpolate_batch, Told};
 use numeris::ode::OdeError;
 
 type Table = GJDenseOutput<f64, 3>;
-type Values = Result<Vec<(V3, V3)>, OdeError>;
+type Values = Result<Vec<Told<3>>, OdeError>;
 
 const ODD: [f64; 6] = [f64::NAN, f64::INFINITY, f64::NEG_INFINITY, -0.0, 5e-324, f64::MAX];
 
@@ -98,23 +99,24 @@ fn samples_of(rng: &mut Random, table: &Table) -> Vec<f64> {
     numbers
 }
 
-/// How much room there is for k times: enough, more, or too little.
+/// How much room there is for k times: enough, more, too little by one or by a time, or too little by far, for position and velocity alone too.
 fn size(rng: &mut Random, k: usize) -> usize {
+    let enough = BETWEEN_NUMBERS * k;
     match rng.below(12) {
-        0 => rng.below(6 * k as u64 + 1) as usize,
-        1 => (6 * k).saturating_sub(1),
-        2..=6 => 6 * k,
-        _ => 6 * k + rng.below(15) as usize,
+        0 => rng.below(enough as u64 + 1) as usize,
+        1 => enough.saturating_sub(rng.pick(&[1, BETWEEN_NUMBERS, 3 * k])),
+        2..=6 => enough,
+        _ => enough + rng.below(2 * BETWEEN_NUMBERS as u64) as usize,
     }
 }
 
-/// 01's number and the values, by the module where the shape is right.
+/// 01's number and the values, by the module and the second writing where the shape is right.
 fn wanted(values: Values, shaped: bool) -> Result<Vec<f64>, u32> {
     if !shaped {
         return Err(9);
     }
     match values {
-        Ok(all) => Ok(all.iter().flat_map(|(r, v)| [r[0], r[1], r[2], v[0], v[1], v[2]]).collect()),
+        Ok(all) => Ok(all.iter().flatten().flat_map(|x| [x[0], x[1], x[2]]).collect()),
         Err(OdeError::NoDenseOutput) => Err(3),
         Err(OdeError::InterpOutOfBounds) => Err(4),
         Err(_) => Err(0),
@@ -143,15 +145,17 @@ impl Lent {
     }
 }
 
-/// One call: told and written as wanted, six numbers a time and nothing else, or nothing at all.
+/// One call: told and written as wanted, so many numbers a time and nothing else, or nothing at all.
 fn compare(lent: &mut Lent, batch: bool, values: Values, tally: &mut Tally) -> Verdict {
-    let shaped = lent.samples.count() % 10 == 0 && lent.out.count() >= 6 * lent.times.count();
+    let shaped = lent.samples.count() % 10 == 0 && lent.out.count() >= BETWEEN_NUMBERS * lent.times.count();
     let told = lent.call(batch);
     match wanted(values, shaped) {
         Ok(all) => {
             holds(told == 0, format_args!("interpolation refused by {told}"))?;
-            tally.times += lent.times.count() as u64;
+            holds(all.len() == BETWEEN_NUMBERS * lent.times.count(), "the numbers wanted are not so many a time")?;
             lent.out.accept("interpolation", 0, &all)?;
+            tally.times += lent.times.count() as u64;
+            all.chunks(BETWEEN_NUMBERS).for_each(|one| tally.accelerations.count(&one[one.len() - 3..]));
         }
         Err(refusal) => {
             holds(told == refusal, format_args!("interpolation told {told}, refusal {refusal} was due"))?;
@@ -187,11 +191,11 @@ fn compare_table(table: &Table, rng: &mut Random, tally: &mut Tally) -> Verdict 
     for _ in 0..4 {
         let t = time(rng, &table.t, true);
         let mut lent = lend(rng, table, &[t]);
-        compare(&mut lent, false, GaussJackson8::interpolate(t, table).map(|x| vec![x]), tally)?;
+        compare(&mut lent, false, interpolate(t, table).map(|x| vec![x]), tally)?;
     }
     let times = row(rng, table);
     let mut lent = lend(rng, table, &times);
-    compare(&mut lent, true, GaussJackson8::interpolate_batch(&times, table), tally)
+    compare(&mut lent, true, interpolate_batch(&times, table), tally)
 }
 
 pub fn compare_random(rng: &mut Random, tally: &mut Tally) -> Verdict {

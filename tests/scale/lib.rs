@@ -1,13 +1,15 @@
 // SPDX-License-Identifier: MIT OR Apache-2.0
 //! The module and the library in one process, on the same cases: every question, sample, state, count and refusal, and every byte of the
-//! buffers, written and not written; runs put away and taken up, and damaged forms, against a second writing of W-201 and W-202. Cases come
-//! on standard input, as `oracle cases` writes them; the tampering comes from a seed.
+//! buffers, written and not written; runs put away and taken up, damaged forms, and accelerations between samples, against a second writing of
+//! W-201, W-202 and W-203. Cases come on standard input, as `oracle cases` writes them; the tampering comes from a seed.
 #[path = "../../oracle/src/force.rs"]
 mod force;
 #[path = "../../oracle/src/random.rs"]
 mod random;
 #[path = "../../bindings/rust/src/raw.rs"]
 mod raw;
+#[path = "../../tools/with_acceleration.rs"]
+mod with_acceleration;
 
 mod away;
 #[cfg(feature = "dense")]
@@ -78,7 +80,7 @@ fn take(line: &str, forms: bool, judge: &mut Judge, rng: &mut Random, tally: &mu
 
 fn end(tally: &Tally, seed: u64, spent: f64) -> i32 {
     tally.print(seed, spent);
-    match tally.forms.every_kind_was_met().and(tally.every_refusal_was_met()) {
+    match tally.forms.every_kind_was_met().and(tally.every_refusal_was_met()).and(tally.every_acceleration_was_met()) {
         Ok(()) => 0,
         Err(fault) => {
             println!("{fault}");

@@ -45,6 +45,22 @@ impl Forms {
     }
 }
 
+/// Components of accelerations between samples that were equal, by what they are.
+#[derive(Default)]
+pub struct Accelerations {
+    finite: u64,
+    infinite: u64,
+    nan: u64,
+}
+
+impl Accelerations {
+    pub fn count(&mut self, components: &[f64]) {
+        for x in components {
+            *if x.is_nan() { &mut self.nan } else if x.is_finite() { &mut self.finite } else { &mut self.infinite } += 1;
+        }
+    }
+}
+
 #[derive(Default)]
 pub struct Tally {
     pub cases: u64,
@@ -63,6 +79,7 @@ pub struct Tally {
     pub redated: u64,
     pub tables: u64,
     pub times: u64,
+    pub accelerations: Accelerations,
     /// Runs put away and taken up in the middle of their line; and older forms taken up again.
     pub away: u64,
     pub older: u64,
@@ -79,6 +96,8 @@ impl Tally {
         println!("  {} runs made up, {} of them by a blank date alone", self.made_up, self.blank);
         println!("  {} runs altered within the counting, {} of them with other dates", self.altered, self.redated);
         println!("  {} tables, {} times between their samples", self.tables, self.times);
+        let a = &self.accelerations;
+        println!("    components of their accelerations: {} finite, {} infinite, {} NaN", a.finite, a.infinite, a.nan);
         println!("  {} times put away and taken up, {} older forms taken up again", self.away, self.older);
         self.forms.print();
     }
@@ -88,5 +107,13 @@ impl Tally {
         let is_left_out = |n: usize| cfg!(not(feature = "dense")) && [3, 4, 9].contains(&n);
         let missing = (1..=REFUSALS).find(|n| self.refused[*n] == 0 && !is_left_out(*n));
         holds(self.cases < ENOUGH_CASES || missing.is_none(), format_args!("refusal {missing:?} did not occur"))
+    }
+
+    /// Three for each time; and each kind of them, unless there is no interpolation.
+    pub fn every_acceleration_was_met(&self) -> Verdict {
+        let kinds = [self.accelerations.finite, self.accelerations.infinite, self.accelerations.nan];
+        holds(kinds.iter().sum::<u64>() == 3 * self.times, "a time was read without its acceleration")?;
+        let few = self.cases < ENOUGH_CASES || cfg!(not(feature = "dense"));
+        holds(few || kinds.iter().all(|n| *n > 0), "no acceleration between samples was finite, infinite or NaN")
     }
 }

@@ -10,7 +10,7 @@ enum { DEEP = 1 << 18, NEAR = 256, PAINT = 0x5A, SAID = 32768 };
 static gj_run run;
 static gj_reply reply;
 static gj_settings settings;
-static double samples[110], six[12], times[2];
+static double samples[110], between[2 * GJ_BETWEEN_NUMBERS], times[2];
 static uint32_t told;
 static uint8_t form[GJ_STORED_SIZE];
 
@@ -30,8 +30,8 @@ static void call_answer(void) {
 static void call_open_question(void) { reply = gj_open_question(&run); }
 static void call_store(void) { told = gj_store(&run, form, sizeof form); }
 static void call_load(void) { reply = gj_load(&run, form, sizeof form); }
-static void call_interpolate(void) { told = gj_interpolate(times[0], samples, 100, six, 12); }
-static void call_interpolate_batch(void) { told = gj_interpolate_batch(times, 2, samples, 100, six, 12); }
+static void call_interpolate(void) { told = gj_interpolate(times[0], samples, 100, between, GJ_BETWEEN_NUMBERS); }
+static void call_interpolate_batch(void) { told = gj_interpolate_batch(times, 2, samples, 100, between, 2 * GJ_BETWEEN_NUMBERS); }
 
 /* From far below up to near this function's own place. */
 __attribute__((noinline)) static void paint(volatile unsigned char *low) {

@@ -1,22 +1,21 @@
 // SPDX-License-Identifier: MIT OR Apache-2.0
-//! Position and velocity between samples.
+//! Position, velocity and acceleration between samples.
 use crate::Triple;
 
-/// Position and velocity at a time.
+/// Position, velocity and acceleration at a time.
 #[repr(C)]
 #[derive(Debug, Clone, Copy, PartialEq, Default)]
 pub struct State {
     pub r: Triple,
     pub v: Triple,
+    /// The second derivative of the curve whose position and velocity these are; not the force there, which the library does not have.
+    pub a: Triple,
 }
 
 #[cfg(feature = "dense")]
 mod calls {
     use super::State;
-    use crate::{abi, raw, Refusal};
-
-    /// How many numbers the library writes a time.
-    const NUMBERS: usize = 6;
+    use crate::{abi, raw, Refusal, BETWEEN_NUMBERS};
 
     /// At time t, from samples as a run stored them: ten numbers each, and no others in the slice.
     ///
@@ -28,7 +27,7 @@ mod calls {
     /// // From rest at 0 to 1: two samples, a second apart.
     /// let samples = [0.0, 0.0, 0.0, 0.0, 0.0, 0.0, 0.0, 0.0, 0.0, 0.0, 1.0, 1.0, 0.0, 0.0, 5.0, 0.0, 0.0, 20.0, 0.0, 0.0];
     /// let state = gauss_jackson::interpolate(0.5, &samples)?;
-    /// assert_eq!((state.r.x, state.v.x), (0.03125, 0.3125));
+    /// assert_eq!((state.r.x, state.v.x, state.a.x), (0.03125, 0.3125, 2.5));
     /// # Ok::<(), gauss_jackson::Refusal>(())
     /// ```
     ///
@@ -40,8 +39,8 @@ mod calls {
         abi::must_be_ours();
         let mut at = State::default();
         let out = std::ptr::addr_of_mut!(at).cast();
-        // A State is six numbers in the order in which the library writes them.
-        Refusal::told(unsafe { raw::gj_interpolate(t, samples.as_ptr(), samples.len(), out, NUMBERS) })?;
+        // A State is so many numbers, in the order in which the library writes them.
+        Refusal::told(unsafe { raw::gj_interpolate(t, samples.as_ptr(), samples.len(), out, BETWEEN_NUMBERS) })?;
         Ok(at)
     }
 
@@ -58,6 +57,7 @@ mod calls {
     /// let samples = [0.0, 0.0, 0.0, 0.0, 0.0, 0.0, 0.0, 0.0, 0.0, 0.0, 1.0, 1.0, 0.0, 0.0, 5.0, 0.0, 0.0, 20.0, 0.0, 0.0];
     /// let states = gauss_jackson::interpolate_batch(&[0.0, 0.5, 1.0], &samples)?;
     /// assert_eq!((states[1].r.x, states[2].r.x), (0.03125, 1.0));
+    /// assert_eq!((states[0].a.x, states[1].a.x, states[2].a.x), (0.0, 2.5, 20.0));
     /// # Ok::<(), gauss_jackson::Refusal>(())
     /// ```
     ///
@@ -68,7 +68,7 @@ mod calls {
         abi::must_be_ours();
         let mut all = vec![State::default(); times.len()];
         let out = all.as_mut_ptr().cast();
-        let (k, n, m) = (times.len(), samples.len(), NUMBERS * times.len());
+        let (k, n, m) = (times.len(), samples.len(), BETWEEN_NUMBERS * times.len());
         Refusal::told(unsafe { raw::gj_interpolate_batch(times.as_ptr(), k, samples.as_ptr(), n, out, m) })?;
         Ok(all)
     }
@@ -80,9 +80,22 @@ pub use calls::{interpolate, interpolate_batch};
 #[cfg(test)]
 mod tests {
     use super::State;
+    use crate::{Triple, BETWEEN_NUMBERS};
+    use std::mem::{align_of, size_of};
 
     #[test]
-    fn a_state_is_six_numbers() {
-        assert_eq!(std::mem::size_of::<State>(), 6 * std::mem::size_of::<f64>());
+    fn a_state_is_what_is_written_a_time() {
+        assert_eq!(size_of::<State>(), BETWEEN_NUMBERS * size_of::<f64>());
+        assert_eq!(align_of::<State>(), align_of::<f64>());
+    }
+
+    #[test]
+    fn position_stands_first_then_velocity_then_acceleration() {
+        let numbers: [f64; BETWEEN_NUMBERS] = std::array::from_fn(|n| n as f64);
+        // A State is as large as these numbers and aligned as they are, and any numbers are a State.
+        let state: State = unsafe { std::mem::transmute(numbers) };
+        assert_eq!(state.r, Triple::from([0.0, 1.0, 2.0]));
+        assert_eq!(state.v, Triple::from([3.0, 4.0, 5.0]));
+        assert_eq!(state.a, Triple::from([6.0, 7.0, 8.0]));
     }
 }

@@ -81,7 +81,7 @@ pub use between::{interpolate, interpolate_batch};
 pub use drive::Finished;
 #[cfg(feature = "dense")]
 pub use order::{first_out_of_order, interpolate_in_any_order};
-pub use raw::Triple;
+pub use raw::{Triple, BETWEEN_NUMBERS};
 pub use refusal::Refusal;
 pub use run::{Reply, Run};
 pub use sample::{numbers_for, Sample, SAMPLE_NUMBERS};

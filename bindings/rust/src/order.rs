@@ -38,7 +38,7 @@ pub fn first_out_of_order(times: &[f64], samples: &[f64]) -> Option<usize> {
 /// ```
 /// let samples = [0.0, 0.0, 0.0, 0.0, 0.0, 0.0, 0.0, 0.0, 0.0, 0.0, 1.0, 1.0, 0.0, 0.0, 5.0, 0.0, 0.0, 20.0, 0.0, 0.0];
 /// let states = gauss_jackson::interpolate_in_any_order(&[1.0, 0.5, 0.0], &samples)?;
-/// assert_eq!((states[0].r.x, states[1].r.x), (1.0, 0.03125));
+/// assert_eq!((states[0].r.x, states[1].r.x, states[1].a.x), (1.0, 0.03125, 2.5));
 /// # Ok::<(), gauss_jackson::Refusal>(())
 /// ```
 ///

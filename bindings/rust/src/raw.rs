@@ -55,6 +55,9 @@ pub struct Reply {
 #[derive(Clone)]
 pub struct Run(pub [u64; 132]);
 
+/// Numbers that an interpolation writes a time: x, y and z of position, velocity and acceleration.
+pub const BETWEEN_NUMBERS: usize = 9;
+
 extern "C" {
     pub fn gj_default_settings() -> Settings;
     pub fn gj_start(run: *mut Run, settings: Settings, t0: f64, tf: f64, r0: Triple, v0: Triple) -> Reply;

@@ -92,7 +92,7 @@ impl Refusal {
             Refusal::SampleRoom => "the samples due now do not all fit in the buffer; the run has ended, this call wrote none",
             Refusal::NoQuestion => "no question is open: the run has ended, or its memory is not that of a run",
             Refusal::NotThatQuestion => "the answer's number is not that of the open question; the run waits as before",
-            Refusal::Shape => "the samples are not in tens, or the output has fewer than six numbers a time",
+            Refusal::Shape => "the samples are not in tens, or the output has too few numbers for its times",
             Refusal::StoredShape => "there are not 2,048 bytes, or a block's number or check is wrong: cut short, damaged, or no stored run",
             Refusal::StoredContent => "the blocks are whole, but hold no run: another form number, or what no run has",
             Refusal::BlankDate => "the start, the end or the step is not a finite number; look at the dates that went in",

@@ -4,7 +4,7 @@
 mod common;
 
 use common::{force, run, SAMPLED};
-use gauss_jackson::{first_out_of_order, interpolate, interpolate_batch, interpolate_in_any_order, numbers_for, Refusal};
+use gauss_jackson::{first_out_of_order, interpolate, interpolate_batch, interpolate_in_any_order, numbers_for, Refusal, Sample, State, Triple};
 
 /// From rest to 1, in each component.
 fn table() -> Vec<f64> {
@@ -17,10 +17,34 @@ fn table() -> Vec<f64> {
 fn the_quintic() {
     let table = table();
     let at = interpolate(0.5, &table).unwrap();
-    assert_eq!((at.r.z, at.v.x), (0.03125, 0.3125));
+    let each = |x: f64| Triple::from([x; 3]);
+    assert_eq!(at, State { r: each(0.03125), v: each(0.3125), a: each(2.5) });
     assert_eq!(interpolate_batch(&[0.5], &table), Ok(vec![at]));
     assert_eq!(interpolate_batch(&[], &table), Ok(vec![]));
-    assert!(interpolate(f64::NAN, &table).unwrap().r.x.is_nan());
+}
+
+/// Every number of it.
+fn is_nan(state: &State) -> bool {
+    [state.r, state.v, state.a].iter().all(|triple| <[f64; 3]>::from(*triple).iter().all(|x| x.is_nan()))
+}
+
+#[test]
+fn a_time_of_nan_gives_nan_throughout() {
+    assert!(is_nan(&interpolate(f64::NAN, &table()).unwrap()));
+    let states = interpolate_batch(&[0.25, f64::NAN, 0.5], &table()).unwrap();
+    assert!(!is_nan(&states[0]) && is_nan(&states[1]));
+    assert_eq!(Ok(states[2]), interpolate(0.5, &table()));
+}
+
+/// At a sample's own time the interval that begins there is read, at its beginning: all three are the sample's.
+#[test]
+fn at_a_sample_its_own_acceleration_is_told() {
+    let mut samples = vec![0.0; numbers_for(12)];
+    run(SAMPLED, 0.0, 12.0).drive(force, &mut samples).unwrap();
+    for sample in &Sample::view(&samples)[..12] {
+        let told = State { r: sample.r, v: sample.v, a: sample.a };
+        assert_eq!(interpolate(sample.t, &samples), Ok(told));
+    }
 }
 
 #[test]
@@ -52,5 +76,6 @@ fn any_order_gives_what_each_time_alone_gives() {
 fn nan_among_the_times_harms_no_other() {
     let at = interpolate(0.5, &table()).unwrap();
     let states = interpolate_in_any_order(&[0.5, f64::NAN, 0.25, -f64::NAN], &table()).unwrap();
-    assert!(states[0] == at && states[1].r.x.is_nan() && states[3].r.x.is_nan() && states[2].r.x < at.r.x);
+    assert!(states[0] == at && is_nan(&states[1]) && is_nan(&states[3]));
+    assert!(states[2].r.x < at.r.x && states[2].a.x < at.a.x);
 }

@@ -1,8 +1,9 @@
 // SPDX-License-Identifier: MIT OR Apache-2.0
-//! An orbit 400 km up, carried forward for a day in one-minute steps, and read off between the steps. The same orbit as examples/c,
-//! over the safe crate; each operation of the force in the same order, so that both give the same bits. Units are km and seconds.
+//! An orbit 400 km up, carried forward for a day in one-minute steps, and read off between the steps, for a ground station too. The same orbit
+//! as examples/c, over the safe crate; each operation of the force in the same order, so that both give the same bits. Units are km and seconds.
 mod away;
 mod print;
+mod station;
 
 pub use away::away_main;
 use gauss_jackson::{numbers_for, Finished, Refusal, Reply, Run, Sample, Settings, State, Triple};
@@ -11,11 +12,12 @@ const STEPS: usize = 1440;
 const ROWS: usize = 24;
 const DAY: f64 = 86400.0;
 const MU: f64 = 398600.4418;
+const EARTH: f64 = 6378.137;
 const RADIUS: f64 = 6778.137;
 /// Cosine and sine of an inclination of 51.6 degrees.
 const INCLINATION: (f64, f64) = (0.6211477802783103, 0.7836934573258398);
 
-/// A row of the table: a time, with position and velocity.
+/// A row of the table: a time, with position, velocity and acceleration.
 struct Row {
     t: f64,
     at: State,
@@ -61,7 +63,7 @@ fn read_off(samples: &[f64]) -> Result<Vec<Row>, Refusal> {
 #[cfg(not(feature = "dense"))]
 fn read_off(samples: &[f64]) -> Result<Vec<Row>, Refusal> {
     let hourly = Sample::view(samples).iter().step_by(60).take(ROWS);
-    Ok(hourly.map(|s| Row { t: s.t, at: State { r: s.r, v: s.v } }).collect())
+    Ok(hourly.map(|s| Row { t: s.t, at: State { r: s.r, v: s.v, a: s.a } }).collect())
 }
 
 /// What is printed.
@@ -76,7 +78,7 @@ fn tell(form: Form) -> Result<(), Refusal> {
     // A refusal has ended the run, and goes to the caller with its text; past this line the run has finished.
     let end = carry_forward(&mut samples)?;
     match form {
-        Form::Table => print::table(&end, &read_off(&samples)?),
+        Form::Table => print::table(&end, Sample::view(&samples), &read_off(&samples)?),
         Form::Csv => print::csv(Sample::view(&samples)),
         Form::Bits => print::bits(&end, &samples, &read_off(&samples)?),
     }
