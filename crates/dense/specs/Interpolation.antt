@@ -14,9 +14,9 @@ use Rattle.quintic.specs.declared.Between.{Between}
 use Rattle.quintic.specs.Quintic.{quinticHermite}
 use Rattle.refusals.specs.declared.Told.{Told}
 use Rattle.refusals.specs.declared.Told.the-variants.{Written, Refused}
-use Rattle.dense.specs.declared.interval.Ends.{Ends}
-use Rattle.dense.specs.Table.{countOf, sampleOf}
-use Rattle.dense.specs.Intervals.{endsOf, intervalOf, walkedTo}
+use Rattle.intervals.specs.declared.Ends.{Ends}
+use Rattle.intervals.specs.Table.{countOf, sampleOf}
+use Rattle.intervals.specs.Intervals.{endsOf, intervalOf, walkedTo}
 
 -- how many numbers a time takes: position, velocity, acceleration
 abbrev pub betweenNumbers : ℕ

@@ -1,3 +1,1 @@
-pub mod Table
-pub mod Intervals
 pub mod Interpolation

@@ -6,8 +6,6 @@ ghost use mathlib.Core.Path.{_≡_};
 ghost use mathlib.Core.List.{[], _∷_};
 ghost use Rattle.dense.specs.Interpolation.{judged, interpolated, batched};
 
-mod interval;
-mod table;
 mod verdict;
 mod writing;
 
@@ -24,7 +22,7 @@ pub fn interpolate(t: f64, samples: &[f64], out: &mut [f64]) -> Told
     match told {
         Told::Refused(e) => Told::Refused(e),
         Told::Written => {
-            let k = interval::interval_of(samples, t);
+            let k = intervals::interval_of(samples, t);
             writing::store(0, writing::value(samples, k, t), out);
             Told::Written
         }

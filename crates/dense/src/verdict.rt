@@ -1,13 +1,12 @@
 // SPDX-License-Identifier: MIT OR Apache-2.0
 // What a call is told, before anything is written: refusal 9, 3 or 4, in this order, or none.
 use crate::BETWEEN_NUMBERS;
-use crate::interval;
-use crate::interval::Ends;
-use crate::table;
+use intervals::Ends;
+use intervals::table;
 use refusals::Refusal;
 use refusals::Told;
 ghost use mathlib.Core.Path.{_≡_};
-ghost use Rattle.dense.specs.Intervals.{endsOf};
+ghost use Rattle.intervals.specs.Intervals.{endsOf};
 ghost use Rattle.dense.specs.Interpolation.{isMisshapen, isOutside, anyOutside, judged};
 
 // 9. The room is divided, since a product could overflow.
@@ -34,7 +33,7 @@ fn is_outside(ends: Ends, t: f64) -> bool
 fn any_outside(times: &[f64], samples: &[f64]) -> bool
     ensures { λ b. ⌜ b ≡ anyOutside (endsOf (now (samples .entry))) (now (times .entry)) ⌝ }
 {
-    let ends = interval::ends_of(samples);
+    let ends = intervals::ends_of(samples);
     let mut j = 0usize;
     while j < times.len() {
         if is_outside(ends, times[j]) {

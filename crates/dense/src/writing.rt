@@ -1,11 +1,10 @@
 // SPDX-License-Identifier: MIT OR Apache-2.0
 // What is written for each time, and where.
 use crate::BETWEEN_NUMBERS;
-use crate::interval;
-use crate::table;
+use intervals::table;
 use quintic::Between;
 ghost use mathlib.Core.Path.{_≡_};
-ghost use Rattle.dense.specs.Intervals.{walkedTo};
+ghost use Rattle.intervals.specs.Intervals.{walkedTo};
 ghost use Rattle.dense.specs.Interpolation.{valueAt, written, writtenAll};
 
 // The quintic of interval k at t.
@@ -42,7 +41,7 @@ fn write_next(j: usize, t: f64, k: usize, samples: &[f64], out: &mut [f64]) -> u
     ensures { λ r. ⌜ r ≡ walkedTo (now (samples .entry)) t k ⌝ }
     ensures { λ _. ⌜ now (out .exit) ≡ written j (valueAt (now (samples .entry)) (walkedTo (now (samples .entry)) t k) t) (now (out .entry)) ⌝ }
 {
-    let at = interval::walk_on(samples, t, k);
+    let at = intervals::walk_on(samples, t, k);
     store(j, value(samples, at, t), out);
     at
 }

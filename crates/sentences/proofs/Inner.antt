@@ -9,10 +9,10 @@ use native.Mathlib.Numerals.{add-one}
 use native.Mathlib.Nat.{sub-zero, eq-or-lt-of-le}
 use lib.Ieee.{Float}
 use borrow.Author.Tests.{le-ltb}
-use Rattle.dense.specs.Table.{countOf, timeOf}
-use Rattle.dense.specs.Intervals.{isForward, reached, firstPast, heldTo, isShort, walkOn, intervalOf, walkedTo}
+use Rattle.intervals.specs.Table.{countOf, timeOf}
+use Rattle.intervals.specs.Intervals.{isForward, reached, firstPast, heldTo, isShort, walkOn, intervalOf, walkedTo}
 use Rattle.sentences.specs.Sentences.{Apart, AtInnerSample}
-use Rattle.dense.proofs.Loops.{past-on, past-here, walk-on, walk-here}
+use Rattle.intervals.proofs.Loops.{past-on, past-here, walk-on, walk-here}
 use Rattle.sentences.proofs.Strict.{short-reaches, short-fails, short-own, not-short}
 
 -- ---- n turns of each search

@@ -6,8 +6,8 @@ use Rattle.triple.specs.declared.Triple.{Triple}
 use Rattle.triple.specs.declared.Sample.{Sample}
 use Rattle.triple.specs.Arithmetic.{plus, times, over}
 use Rattle.quintic.specs.Quintic.{positionOn, velocityOn, accelerationOn, quinticHermite}
-use Rattle.dense.specs.Table.{nans}
-use Rattle.dense.specs.Intervals.{endsOf}
+use Rattle.intervals.specs.Table.{nans}
+use Rattle.intervals.specs.Intervals.{endsOf}
 use Rattle.dense.specs.Interpolation.{isOutside, valueAt}
 use Rattle.sentences.specs.Sentences.{NanNotRefused, NanGivesNan}
 

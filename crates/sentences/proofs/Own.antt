@@ -9,7 +9,7 @@ use Rattle.triple.specs.Arithmetic.{nought, plus, minus, times, over}
 use Rattle.triple.specs.Finite.{isFinite}
 use Rattle.triple.specs.Doubles.{Double}
 use Rattle.quintic.specs.Quintic.{delta3, curveOf, accelerationOn, quinticHermite}
-use Rattle.dense.specs.Table.{sampleOf, timeOf}
+use Rattle.intervals.specs.Table.{sampleOf, timeOf}
 use Rattle.dense.specs.Interpolation.{valueAt}
 use Rattle.sentences.specs.Sentences.{timeTo, shareAt, Again, AgainEach, Smooth, AtShareZero, AtOwnTime, AtInnerSampleAgain}
 use Rattle.sentences.proofs.Strict.{clash}

@@ -14,8 +14,8 @@ use Rattle.quintic.specs.declared.Between.{Between}
 use Rattle.refusals.specs.declared.Refusal.the-variants.{NoDenseOutput, InterpOutOfBounds, Shape}
 use Rattle.refusals.specs.declared.Told.{Told}
 use Rattle.refusals.specs.declared.Told.the-variants.{Written, Refused}
-use Rattle.dense.specs.Table.{countOf}
-use Rattle.dense.specs.Intervals.{endsOf, intervalOf, walkedTo}
+use Rattle.intervals.specs.Table.{countOf}
+use Rattle.intervals.specs.Intervals.{endsOf, intervalOf, walkedTo}
 use Rattle.dense.specs.Interpolation.{betweenNumbers, putFrom, isMisshapen, anyOutside, judged, valueAt, written, writtenAll, unless, interpolated, batched}
 use Rattle.sentences.specs.Sentences.{PastUntouched, PastUntouchedOne, RoomForAll}
 

@@ -7,7 +7,7 @@ use native.Mathlib.Nat.{le-refl}
 use lib.Dec.{ltb, eqb}
 use lib.Ieee.{Float, nan, inf, fin, up, down, below, level, lt, eq, le}
 use borrow.Author.Tests.{le-ltb, ltb-true, eqb-true, eq-eqb, ne-eqb}
-use Rattle.dense.specs.Intervals.{reached, isShort}
+use Rattle.intervals.specs.Intervals.{reached, isShort}
 use Rattle.sentences.proofs.Nans.{none-above}
 
 pub clash : {A : Type 0} → false ≡ true → A

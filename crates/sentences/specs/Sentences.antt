@@ -14,8 +14,8 @@ use Rattle.triple.specs.Finite.{isFinite}
 use Rattle.triple.specs.Doubles.{Doubles}
 use Rattle.refusals.specs.declared.Told.the-variants.{Written}
 use Rattle.quintic.specs.Quintic.{curveOf, quinticHermite}
-use Rattle.dense.specs.Table.{countOf, nans, sampleOf, timeOf}
-use Rattle.dense.specs.Intervals.{isForward, endsOf, isShort, intervalOf, walkedTo}
+use Rattle.intervals.specs.Table.{countOf, nans, sampleOf, timeOf}
+use Rattle.intervals.specs.Intervals.{isForward, endsOf, isShort, intervalOf, walkedTo}
 use Rattle.dense.specs.Interpolation.{betweenNumbers, judged, isOutside, valueAt, interpolated, batched}
 
 -- "output past 6 numbers a time is untouched", nine since W-203 (Places)
