@@ -1,5 +1,6 @@
 /* SPDX-License-Identifier: MIT OR Apache-2.0 */
-/* What is measured: a flight out and back around an Earth with its flattening (J2), in km and s. */
+/* What is flown: around an Earth with its flattening (J2), in km and s, default settings but for the step; and what is measured of a flight
+ * out and back. */
 #ifndef FLIGHT_H
 #define FLIGHT_H
 
@@ -20,7 +21,12 @@ typedef struct measured {
 
 double distance(gj_triple a, gj_triple b);
 
-/* Out over `span` by steps of `h`, then back from where that ended; default settings. */
+gj_triple force(gj_triple r);
+
+/* To `until` by steps of `h`, with samples where there is a room for so many numbers. */
+gj_reply fly(place from, double until, double h, double *samples, size_t room);
+
+/* Out over `span` by steps of `h`, then back from where that ended. */
 measured out_and_back(place start, double span, double h);
 
 #endif
