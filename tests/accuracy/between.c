@@ -1,7 +1,6 @@
 /* SPDX-License-Identifier: MIT OR Apache-2.0 */
 #include "between.h"
 
-#include <math.h>
 #include <string.h>
 
 /* Room for ten days in steps of 5 s. */
