@@ -191,6 +191,8 @@ pub fn list() -> Vec<String> {
     all.extend(after_case(&[0.5]));
     all.push(table("long", &long, plain));
     all.extend(after_case(&[0.0, 30.0, 59.0, 60.0, 5730.0, 11339.0, 11340.0]));
+    // Close to as many times as a line has room for.
+    all.push(batch(&(0..1900).map(|n| n as f64 * 5.9).collect::<Vec<f64>>()));
     all.push(table("one", &[1.0], plain));
     all.extend(after_case(&[1.0, 2.0, NAN]));
     all.push("table none".to_string());

@@ -9,7 +9,7 @@ use refusals::Told;
 // More floats than a line has room for, and the numbers told of so many times.
 const MOST: usize = 2048;
 
-const ANSWER: usize = 12288;
+const ANSWER: usize = MOST * dense::BETWEEN_NUMBERS;
 
 pub enum Floats {
     Are(usize),

@@ -31,7 +31,7 @@ mul-nan nan = refl
 mul-nan (inf s) = refl
 mul-nan (fin s m e) = refl
 
-add-nan : (x : Float) → add binary64 x nan ≡ nan
+pub add-nan : (x : Float) → add binary64 x nan ≡ nan
 unfolding add
 add-nan nan = refl
 add-nan (inf s) = refl

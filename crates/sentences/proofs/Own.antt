@@ -1,9 +1,9 @@
 -- At s = 0 every term of the curve's acceleration but the first is a zero.
 use Prim.Native.Nat.{ℕ, _+_}
-use mathlib.Core.Path.{_≡_, refl, sym, _∙_, subst}
+use mathlib.Core.Path.{_≡_, refl, sym, ap, _∙_, subst}
 use mathlib.Core.Bool.{Bool, true, false}
 use lib.IntN.{pos}
-use lib.Ieee.{Float, binary64, round, add, sub, mul, div, eq, ofInt}
+use lib.Ieee.{Float, nan, binary64, round, add, sub, mul, div, eq, ofInt}
 use Rattle.triple.specs.declared.Sample.{Sample}
 use Rattle.triple.specs.Arithmetic.{nought, plus, minus, times, over}
 use Rattle.triple.specs.Finite.{isFinite}
@@ -11,9 +11,10 @@ use Rattle.triple.specs.Doubles.{Double}
 use Rattle.quintic.specs.Quintic.{delta3, curveOf, accelerationOn, quinticHermite}
 use Rattle.intervals.specs.Table.{sampleOf, timeOf}
 use Rattle.dense.specs.Interpolation.{valueAt}
-use Rattle.sentences.specs.Sentences.{timeTo, shareAt, Again, AgainEach, Smooth, AtShareZero, AtOwnTime, AtInnerSampleAgain}
+use Rattle.sentences.specs.Sentences.{timeTo, shareAt, squareOf, Again, AgainEach, Smooth, AtShareZero, AtTinyTime, AtOwnTime, AtInnerSampleAgain}
+use Rattle.sentences.proofs.Nans.{add-nan}
 use Rattle.sentences.proofs.Strict.{clash}
-use Rattle.sentences.proofs.Zeros.{second-of-difference, second-of-product, Zero, sum-zero, over-zero, zero-is, zero-finite, product, none, plus-zero}
+use Rattle.sentences.proofs.Zeros.{second-of-difference, second-of-product, Zero, sum-zero, over-zero, zero-over-zero, zero-is, zero-finite, product, less-itself, plus-zero}
 use Rattle.sentences.proofs.Inner.{at-inner-sample}
 
 -- the whole number n, as the curve has it
@@ -39,54 +40,65 @@ module _ (c3 c4 c5 s hh : Float) (still : eq s nought ≡ true) (f3 : isFinite c
   term : (c : Float) (n : ℕ) (power : Float) → isFinite c ≡ true → isFinite (whole n) ≡ true → eq power nought ≡ true → Zero (mul binary64 c (mul binary64 (whole n) power))
   term c n power f w z = product c (mul binary64 (whole n) power) f (zero-is _ (product (whole n) power w z))
 
-  bent : isFinite hh ≡ true → eq hh nought ≡ false → Zero (div binary64 (bentBy c3 c4 c5 s) hh)
+  -- what is divided
+  bent : Zero (bentBy c3 c4 c5 s)
   unfolding isFinite ofInt round
-  bent f apart =
-      over-zero (bentBy c3 c4 c5 s) hh
-      (sum-zero _ _ (sum-zero _ _ (term c3 6 s f3 refl still) (term c4 12 _ f4 refl s2)) (term c5 20 _ f5 refl s3)) f apart
+  bent = sum-zero _ _ (sum-zero _ _ (term c3 6 s f3 refl still) (term c4 12 _ f4 refl s2)) (term c5 20 _ f5 refl s3)
 
   component : (a : Float) → Double a → isFinite hh ≡ true → eq hh nought ≡ false → Again a (add binary64 a (div binary64 (bentBy c3 c4 c5 s) hh))
-  component a f g apart = let (t, p) = bent g apart in subst (λ (z : Float). Again a (add binary64 a z)) (sym p) (plus-zero a t f)
+  component a f g apart = let (t, p) = over-zero _ hh bent g apart in subst (λ (z : Float). Again a (add binary64 a z)) (sym p) (plus-zero a t f)
+
+  lost : (a : Float) → eq hh nought ≡ true → add binary64 a (div binary64 (bentBy c3 c4 c5 s) hh) ≡ nan
+  lost a none = ap (add binary64 a) (zero-over-zero _ hh bent none) ∙ add-nan a
 
 -- ---- the curve between two samples
 module _ (from to : Sample) (k : Smooth from to) where
   abbrev h : Float
   h = timeTo from to
 
-  hh-finite : isFinite (mul binary64 h h) ≡ true
+  hh-finite : isFinite (squareOf from to) ≡ true
   unfolding curveOf delta3 minus times
   hh-finite = second-of-product (sub binary64 (to .a .x) (from .a .x)) _ (second-of-difference _ _ (k .c4 .x))
 
   h-finite : isFinite h ≡ true
   h-finite = second-of-product h h hh-finite
 
-  h-apart : eq h nought ≡ false
-  h-apart = by (eq h nought) refl
+  h-apart : eq (squareOf from to) nought ≡ false → eq h nought ≡ false
+  h-apart apart = by (eq h nought) refl
     where
       by : (b : Bool) → eq h nought ≡ b → eq h nought ≡ false
       by false e = e
-      by true e = clash (sym (k .apart) ∙ zero-is _ (product h h h-finite e))
+      by true e = clash (sym apart ∙ zero-is _ (product h h h-finite e))
 
-  share-zero : eq (shareAt from to (from .t)) nought ≡ true
-  share-zero = zero-is _ (over-zero _ h (none (from .t) (second-of-difference (to .t) (from .t) h-finite)) h-finite h-apart)
+  share-zero : eq (squareOf from to) nought ≡ false → eq (shareAt from to (from .t)) nought ≡ true
+  share-zero apart = zero-is _ (over-zero _ h (less-itself (from .t) (second-of-difference (to .t) (from .t) h-finite)) h-finite (h-apart apart))
 
 pub at-share-zero : AtShareZero
 unfolding quinticHermite accelerationOn plus times over
-at-share-zero from to t d k z =
+at-share-zero from to t d k apart still =
     let s = shareAt from to t in
-    let hh = mul binary64 (timeTo from to) (timeTo from to) in
     let f = hh-finite from to k in
     record {
-      x = component _ _ _ s hh z (k .c3 .x) (k .c4 .x) (k .c5 .x) (from .a .x) (d .x) f (k .apart);
-      y = component _ _ _ s hh z (k .c3 .y) (k .c4 .y) (k .c5 .y) (from .a .y) (d .y) f (k .apart);
-      z = component _ _ _ s hh z (k .c3 .z) (k .c4 .z) (k .c5 .z) (from .a .z) (d .z) f (k .apart);
+      x = component _ _ _ s (squareOf from to) still (k .c3 .x) (k .c4 .x) (k .c5 .x) (from .a .x) (d .x) f apart;
+      y = component _ _ _ s (squareOf from to) still (k .c3 .y) (k .c4 .y) (k .c5 .y) (from .a .y) (d .y) f apart;
+      z = component _ _ _ s (squareOf from to) still (k .c3 .z) (k .c4 .z) (k .c5 .z) (from .a .z) (d .z) f apart;
     }
 
+pub at-tiny-time : AtTinyTime
+unfolding quinticHermite accelerationOn plus times over
+at-tiny-time from to t k tiny still =
+    let s = shareAt from to t in
+    rw (
+      lost _ _ _ s (squareOf from to) still (k .c3 .x) (k .c4 .x) (k .c5 .x) (from .a .x) tiny,
+      lost _ _ _ s (squareOf from to) still (k .c3 .y) (k .c4 .y) (k .c5 .y) (from .a .y) tiny,
+      lost _ _ _ s (squareOf from to) still (k .c3 .z) (k .c4 .z) (k .c5 .z) (from .a .z) tiny,
+    )
+
 pub at-own-time : AtOwnTime
-at-own-time from to d k = at-share-zero from to (from .t) d k (share-zero from to k)
+at-own-time from to d k apart = at-share-zero from to (from .t) d k apart (share-zero from to k apart)
 
 pub at-inner-sample-again : AtInnerSampleAgain
 unfolding valueAt timeOf
-at-inner-sample-again l n a some inner d k =
+at-inner-sample-again l n a some inner d k apart =
     subst (λ (i : ℕ). AgainEach (sampleOf l n .a) (valueAt l i (timeOf l n) .a)) (sym (at-inner-sample l n a some inner .0))
-    (at-own-time (sampleOf l n) (sampleOf l (n + 1)) d k)
+    (at-own-time (sampleOf l n) (sampleOf l (n + 1)) d k apart)

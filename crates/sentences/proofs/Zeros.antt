@@ -111,6 +111,12 @@ over-zero x (fin t (suc n) d) (s, p) f h =
     (rw (ne-eqb (suc n) 0 (λ e. omega arith))
     (rounded (unlike s t) (0 * 1 * down d) (suc n * up d * 1) (omega arith) (mul-pos (mul-pos (zero-lt-suc n) (up-pos d)) (omega arith))))
 
+pub zero-over-zero : (x y : Float) → Zero x → eq y nought ≡ true → div binary64 x y ≡ nan
+unfolding div
+zero-over-zero x y (s, p) h =
+    let (t, (e, q)) = zero-by y h in
+    ap (λ (z : Float). div binary64 z y) p ∙ ap (div binary64 (fin s 0 (pos 0))) q
+
 pub zero-is : (x : Float) → Zero x → eq x nought ≡ true
 zero-is x (t, p) = ap (λ (y : Float). eq y nought) p ∙ is-zero t (pos 0)
 
@@ -122,11 +128,11 @@ pub product : (x y : Float) → isFinite x ≡ true → eq y nought ≡ true →
 product x y f h = let (t, (e, p)) = zero-by y h in subst (λ (z : Float). Zero (mul binary64 x z)) (sym p) (times-zero x t e f)
 
 -- a number less itself
-pub none : (x : Float) → isFinite x ≡ true → Zero (sub binary64 x x)
+pub less-itself : (x : Float) → isFinite x ≡ true → Zero (sub binary64 x x)
 unfolding isFinite sub add neg
-none nan f = clash f
-none (inf s) f = clash f
-none (fin s m e) f = (false, cancel s (m * up e * down e) (down e * down e) (mul-pos (down-pos e) (down-pos e)))
+less-itself nan f = clash f
+less-itself (inf s) f = clash f
+less-itself (fin s m e) f = (false, cancel s (m * up e * down e) (down e * down e) (mul-pos (down-pos e) (down-pos e)))
 
 -- ---- a double plus a zero
 -- ±a / c plus a zero is ±a / c, or 0.0 where that is -0.0

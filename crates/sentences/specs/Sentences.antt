@@ -1,4 +1,4 @@
--- Sentences of 01 that follow from the definitions. Each is proved in the file of proofs/ that is named beside it.
+-- Sentences of 01, and of W-203, that follow from the definitions. Each is proved in the file of proofs/ that is named beside it.
 use Prim.Native.Nat.{ℕ, _+_, _*_, _/_, _<_, _≤_}
 use mathlib.Core.Path.{_≡_}
 use mathlib.Core.Logic.{_⊎_}
@@ -48,13 +48,16 @@ abbrev pub AtInnerSample : Type 0
 AtInnerSample =
     (l : List Float) (n : ℕ) → Apart l n → 0 < n → n + 1 < countOf l → (intervalOf l (timeOf l n) ≡ n) × (walkedTo l (timeOf l n) 0 + 1 ≡ n)
 
--- ---- the acceleration at s = 0 is the near sample's own, a_a, where the curve's coefficients are finite and h·h is not 0 (it underflows for a
--- tiny h, and 0/0 is NaN); but a -0.0 may come back as 0.0 (Own). With h the time from one sample to the next, and s = (t - t_a)/h:
+-- ---- the acceleration at s = 0 is the near sample's own, a_a, where the curve's coefficients are finite and h·h is not 0; but a -0.0 may come
+-- back as 0.0 (Own). With h the time from one sample to the next, and s = (t - t_a)/h:
 abbrev pub timeTo : Sample → Sample → Float
 timeTo from to = sub binary64 (to .t) (from .t)
 
 abbrev pub shareAt : Sample → Sample → Float → Float
 shareAt from to t = div binary64 (sub binary64 t (from .t)) (timeTo from to)
+
+abbrev pub squareOf : Sample → Sample → Float
+squareOf from to = mul binary64 (timeTo from to) (timeTo from to)
 
 -- y is x; or x is -0.0, and y is 0.0
 abbrev pub Again : Float → Float → Type 0
@@ -70,23 +73,32 @@ pub record AllFinite (t : Triple) : Type 0 where
   pub y : isFinite (t .y) ≡ true
   pub z : isFinite (t .z) ≡ true
 
+-- the coefficients are finite
 pub record Smooth (from to : Sample) : Type 0 where
   pub c3 : AllFinite (curveOf (timeTo from to) from to .c3)
   pub c4 : AllFinite (curveOf (timeTo from to) from to .c4)
   pub c5 : AllFinite (curveOf (timeTo from to) from to .c5)
-  pub apart : eq (mul binary64 (timeTo from to) (timeTo from to)) nought ≡ false
 
 -- at s = 0, whichever zero that is
 abbrev pub AtShareZero : Type 0
 AtShareZero =
-    (from to : Sample) (t : Float) → Doubles (from .a) → Smooth from to → eq (shareAt from to t) nought ≡ true → AgainEach (from .a) (quinticHermite from to t .a)
+    (from to : Sample) (t : Float) → Doubles (from .a) → Smooth from to → eq (squareOf from to) nought ≡ false → eq (shareAt from to t) nought ≡ true
+    → AgainEach (from .a) (quinticHermite from to t .a)
 
--- and so at the near sample's own time
+-- for a tiny h, h·h underflows: 0/0 is NaN, and so is the acceleration at s = 0
+abbrev pub AtTinyTime : Type 0
+AtTinyTime =
+    (from to : Sample) (t : Float) → Smooth from to → eq (squareOf from to) nought ≡ true → eq (shareAt from to t) nought ≡ true
+    → quinticHermite from to t .a ≡ nans
+
+-- by the first of the two, at the near sample's own time
 abbrev pub AtOwnTime : Type 0
-AtOwnTime = (from to : Sample) → Doubles (from .a) → Smooth from to → AgainEach (from .a) (quinticHermite from to (from .t) .a)
+AtOwnTime =
+    (from to : Sample) → Doubles (from .a) → Smooth from to → eq (squareOf from to) nought ≡ false → AgainEach (from .a) (quinticHermite from to (from .t) .a)
 
 -- and so `interpolate` gives it back at an inner sample's own time, since the interval that it takes starts there
 abbrev pub AtInnerSampleAgain : Type 0
 AtInnerSampleAgain =
-    (l : List Float) (n : ℕ) → Apart l n → 0 < n → n + 1 < countOf l → Doubles (sampleOf l n .a) → Smooth (sampleOf l n) (sampleOf l (n + 1))
+    (l : List Float) (n : ℕ) → Apart l n → 0 < n → n + 1 < countOf l
+    → Doubles (sampleOf l n .a) → Smooth (sampleOf l n) (sampleOf l (n + 1)) → eq (squareOf (sampleOf l n) (sampleOf l (n + 1))) nought ≡ false
     → AgainEach (sampleOf l n .a) (valueAt l (intervalOf l (timeOf l n)) (timeOf l n) .a)
