@@ -1,7 +1,7 @@
 -- `first_later` is `firstPast` of a table that runs forward: what is looked for from sample n on is what was looked for from the start.
 use Prim.Native.Nat.{_-_}
 use native.Mathlib.Nat.{sub-zero}
-use mathlib.Core.Bool.{true, false}
+use mathlib.Core.Bool.{true}
 use mathlib.Core.Path.{_≡_, sym, _∙_}
 use borrow.Author.Needs.{needs}
 use borrow.Author.Tests.{not-true, not-false}
