@@ -3,15 +3,15 @@ use Prim.Native.Nat.{ℕ, _+_}
 use mathlib.Core.Path.{_≡_, refl, sym, ap, _∙_, subst}
 use mathlib.Core.Bool.{Bool, true, false}
 use lib.IntN.{pos}
-use lib.Ieee.{Float, nan, binary64, round, add, sub, mul, div, eq, ofInt}
+use lib.Ieee.{Float, nan, binary64, round, neg, add, sub, mul, div, eq, ofInt, fits}
 use Rattle.triple.specs.declared.Sample.{Sample}
 use Rattle.triple.specs.Arithmetic.{nought, plus, minus, times, over}
 use Rattle.triple.specs.Finite.{isFinite}
 use Rattle.triple.specs.Doubles.{Double}
-use Rattle.quintic.specs.Quintic.{delta3, curveOf, accelerationOn, quinticHermite}
+use Rattle.quintic.specs.Quintic.{delta1, delta2, delta3, curveOf, accelerationOn, quinticHermite}
 use Rattle.intervals.specs.Table.{sampleOf, timeOf}
 use Rattle.dense.specs.Interpolation.{valueAt}
-use Rattle.sentences.specs.Sentences.{timeTo, shareAt, squareOf, Again, AgainEach, Smooth, AtShareZero, AtTinyTime, AtOwnTime, AtInnerSampleAgain}
+use Rattle.sentences.specs.Sentences.{timeTo, shareAt, squareOf, Again, AgainEach, Smooth, AtShareZero, AtTinyTime, AtOwnTime, AtInnerSampleAgain, StarredIsSmooth}
 use Rattle.sentences.proofs.Nans.{add-nan}
 use Rattle.sentences.proofs.Strict.{clash}
 use Rattle.sentences.proofs.Zeros.{second-of-difference, second-of-product, Zero, sum-zero, over-zero, zero-over-zero, zero-is, zero-finite, product, less-itself, plus-zero}
@@ -102,3 +102,11 @@ unfolding valueAt timeOf
 at-inner-sample-again l n a some inner d k apart =
     subst (λ (i : ℕ). AgainEach (sampleOf l n .a) (valueAt l i (timeOf l n) .a)) (sym (at-inner-sample l n a some inner .0))
     (at-own-time (sampleOf l n) (sampleOf l (n + 1)) d k apart)
+
+pub starred-is-smooth : StarredIsSmooth
+unfolding curveOf delta1 delta2 delta3 plus minus times ofInt round add sub mul neg eq isFinite fits
+starred-is-smooth = (
+  record { x = tt; y = tt; z = tt },
+  record { c3 = record { x = refl; y = refl; z = refl }; c4 = record { x = refl; y = refl; z = refl }; c5 = record { x = refl; y = refl; z = refl } },
+  refl,
+)

@@ -6,7 +6,7 @@ use mathlib.Core.Bool.{true, false}
 use mathlib.Core.List.{List}
 use lib.ListN.{length, getD}
 use lib.IntN.{pos}
-use lib.Ieee.{Float, nan, fin, binary64, sub, mul, div, eq}
+use lib.Ieee.{Float, nan, fin, binary64, sub, mul, div, eq, ofInt}
 use Rattle.triple.specs.declared.Triple.{Triple}
 use Rattle.triple.specs.declared.Sample.{Sample}
 use Rattle.triple.specs.Arithmetic.{nought}
@@ -102,3 +102,16 @@ AtInnerSampleAgain =
     (l : List Float) (n : ℕ) → Apart l n → 0 < n → n + 1 < countOf l
     → Doubles (sampleOf l n .a) → Smooth (sampleOf l n) (sampleOf l (n + 1)) → eq (squareOf (sampleOf l n) (sampleOf l (n + 1))) nought ≡ false
     → AgainEach (sampleOf l n .a) (valueAt l (intervalOf l (timeOf l n)) (timeOf l n) .a)
+
+-- these conditions can be met: by the samples of 01's starred quintic, r v a = 0 0 0 at 0 and 1 5 20 at 1
+abbrev alike : ℕ → Triple
+alike n = let x = ofInt binary64 (pos n) in record { x = x; y = x; z = x }
+
+abbrev restAt0 : Sample
+restAt0 = record { t = ofInt binary64 (pos 0); r = alike 0; v = alike 0; a = alike 0 }
+
+abbrev goneAt1 : Sample
+goneAt1 = record { t = ofInt binary64 (pos 1); r = alike 1; v = alike 5; a = alike 20 }
+
+abbrev pub StarredIsSmooth : Type 0
+StarredIsSmooth = Doubles (restAt0 .a) × Smooth restAt0 goneAt1 × (eq (squareOf restAt0 goneAt1) nought ≡ false)
