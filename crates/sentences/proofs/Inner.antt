@@ -35,7 +35,7 @@ held : (c n : ℕ) → n + 1 < c → heldTo (c - 2) (n + 1 - 1) ≡ n
 unfolding heldTo
 held c n h = rw (le-ltb (c - 2) (n + 1 - 1) (omega arith)) (omega arith)
 
-module _ (l : List Float) (n : ℕ) (a : Apart l n) (some : 0 < n) (inner : n + 1 < countOf l) where
+module _ (l : List Float) (n : ℕ) (a : Apart l n) (inner : n + 1 < countOf l) where
   up-to : (i : ℕ) → i < n + 1 → reached (isForward l) (timeOf l i) (timeOf l n) ≡ true
   up-to i h =
       ⊎-elim
@@ -48,22 +48,22 @@ module _ (l : List Float) (n : ℕ) (a : Apart l n) (some : 0 < n) (inner : n + 
       past-run (isForward l) l (timeOf l n) (countOf l) (n + 1) (omega arith) up-to
       ∙ past-here (isForward l) l (timeOf l n) (countOf l) (n + 1) inner (short-fails (isForward l) _ _ (a .ahead))
 
-  starts-there : intervalOf l (timeOf l n) ≡ n
+  pub starts-there : intervalOf l (timeOf l n) ≡ n
   unfolding intervalOf
   starts-there = ap (λ (k : ℕ). heldTo (countOf l - 2) (k - 1)) first-past ∙ held (countOf l) n inner
 
-  stops : isShort (isForward l) (timeOf l (n - 1 + 1)) (timeOf l n) ≡ false
-  stops =
+  stops : 0 < n → isShort (isForward l) (timeOf l (n - 1 + 1)) (timeOf l n) ≡ false
+  stops some =
       let e : n ≡ n - 1 + 1 = omega arith in
       subst (λ (k : ℕ). isShort (isForward l) (timeOf l k) (timeOf l n) ≡ false) e (not-short (isForward l) (timeOf l n))
 
-  ends-there : walkedTo l (timeOf l n) 0 ≡ n - 1
+  ends-there : 0 < n → walkedTo l (timeOf l n) 0 ≡ n - 1
   unfolding walkedTo
-  ends-there =
+  ends-there some =
       ap (λ (k : ℕ). walkOn (isForward l) l (timeOf l n) k 0) (sub-zero (countOf l - 2))
       ∙ walk-run (isForward l) l (timeOf l n) (countOf l - 2) (n - 1) (omega arith) (λ i h. a .behind (i + 1) (omega arith))
-      ∙ walk-here (isForward l) l (timeOf l n) (countOf l - 2) (n - 1) (omega arith) stops
+      ∙ walk-here (isForward l) l (timeOf l n) (countOf l - 2) (n - 1) (omega arith) (stops some)
 
 pub at-inner-sample : AtInnerSample
 at-inner-sample l n a some inner =
-    (starts-there l n a some inner, (let e = ends-there l n a some inner in omega arith))
+    (starts-there l n a inner, (let e = ends-there l n a inner some in omega arith))

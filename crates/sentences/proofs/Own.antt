@@ -11,11 +11,11 @@ use Rattle.triple.specs.Doubles.{Double}
 use Rattle.quintic.specs.Quintic.{delta1, delta2, delta3, curveOf, accelerationOn, quinticHermite}
 use Rattle.intervals.specs.Table.{sampleOf, timeOf}
 use Rattle.dense.specs.Interpolation.{valueAt}
-use Rattle.sentences.specs.Sentences.{timeTo, shareAt, squareOf, Again, AgainEach, Smooth, AtShareZero, AtTinyTime, AtOwnTime, AtInnerSampleAgain, StarredIsSmooth}
+use Rattle.sentences.specs.Sentences.{timeTo, shareAt, squareOf, Again, AgainEach, Smooth, AtShareZero, AtTinyTime, AtOwnTime, AtSampleAgain, StarredIsSmooth}
 use Rattle.sentences.proofs.Nans.{add-nan}
 use Rattle.sentences.proofs.Strict.{clash}
 use Rattle.sentences.proofs.Zeros.{second-of-difference, second-of-product, Zero, sum-zero, over-zero, zero-over-zero, zero-is, zero-finite, product, less-itself, plus-zero}
-use Rattle.sentences.proofs.Inner.{at-inner-sample}
+use Rattle.sentences.proofs.Inner.{starts-there}
 
 -- the whole number n, as the curve has it
 abbrev whole : ℕ → Float
@@ -97,10 +97,10 @@ at-tiny-time from to t k tiny still =
 pub at-own-time : AtOwnTime
 at-own-time from to d k apart = at-share-zero from to (from .t) d k apart (share-zero from to k apart)
 
-pub at-inner-sample-again : AtInnerSampleAgain
+pub at-sample-again : AtSampleAgain
 unfolding valueAt timeOf
-at-inner-sample-again l n a some inner d k apart =
-    subst (λ (i : ℕ). AgainEach (sampleOf l n .a) (valueAt l i (timeOf l n) .a)) (sym (at-inner-sample l n a some inner .0))
+at-sample-again l n a more d k apart =
+    subst (λ (i : ℕ). AgainEach (sampleOf l n .a) (valueAt l i (timeOf l n) .a)) (sym (starts-there l n a more))
     (at-own-time (sampleOf l n) (sampleOf l (n + 1)) d k apart)
 
 pub starred-is-smooth : StarredIsSmooth

@@ -96,10 +96,10 @@ abbrev pub AtOwnTime : Type 0
 AtOwnTime =
     (from to : Sample) → Doubles (from .a) → Smooth from to → eq (squareOf from to) nought ≡ false → AgainEach (from .a) (quinticHermite from to (from .t) .a)
 
--- and so `interpolate` gives it back at an inner sample's own time, since the interval that it takes starts there
-abbrev pub AtInnerSampleAgain : Type 0
-AtInnerSampleAgain =
-    (l : List Float) (n : ℕ) → Apart l n → 0 < n → n + 1 < countOf l
+-- and so `interpolate` gives it back at the time of each sample but the last, since the interval that it takes starts there
+abbrev pub AtSampleAgain : Type 0
+AtSampleAgain =
+    (l : List Float) (n : ℕ) → Apart l n → n + 1 < countOf l
     → Doubles (sampleOf l n .a) → Smooth (sampleOf l n) (sampleOf l (n + 1)) → eq (squareOf (sampleOf l n) (sampleOf l (n + 1))) nought ≡ false
     → AgainEach (sampleOf l n .a) (valueAt l (intervalOf l (timeOf l n)) (timeOf l n) .a)
 
