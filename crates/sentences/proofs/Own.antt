@@ -14,7 +14,7 @@ use Rattle.dense.specs.Interpolation.{valueAt}
 use Rattle.sentences.specs.Sentences.{timeTo, shareAt, squareOf, Again, AgainEach, Smooth, AtShareZero, AtTinyTime, AtOwnTime, AtSampleAgain, StarredIsSmooth}
 use Rattle.sentences.proofs.Nans.{add-nan}
 use Rattle.sentences.proofs.Strict.{clash}
-use Rattle.sentences.proofs.Zeros.{second-of-difference, second-of-product, Zero, sum-zero, over-zero, zero-over-zero, zero-is, zero-finite, product, less-itself, plus-zero}
+use Rattle.sentences.proofs.Zeros.{second-of-difference, second-of-product, Zero, sum-zero, over-zero, zero-over-zero, zero-is, zero-finite, product, nothing-left, plus-zero}
 use Rattle.sentences.proofs.Inner.{starts-there}
 
 -- the whole number n, as the curve has it
@@ -71,7 +71,7 @@ module _ (from to : Sample) (k : Smooth from to) where
       by true e = clash (sym apart ∙ zero-is _ (product h h h-finite e))
 
   share-zero : eq (squareOf from to) nought ≡ false → eq (shareAt from to (from .t)) nought ≡ true
-  share-zero apart = zero-is _ (over-zero _ h (less-itself (from .t) (second-of-difference (to .t) (from .t) h-finite)) h-finite (h-apart apart))
+  share-zero apart = zero-is _ (over-zero _ h (nothing-left (from .t) (second-of-difference (to .t) (from .t) h-finite)) h-finite (h-apart apart))
 
 pub at-share-zero : AtShareZero
 unfolding quinticHermite accelerationOn plus times over

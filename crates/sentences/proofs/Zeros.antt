@@ -128,11 +128,11 @@ pub product : (x y : Float) → isFinite x ≡ true → eq y nought ≡ true →
 product x y f h = let (t, (e, p)) = zero-by y h in subst (λ (z : Float). Zero (mul binary64 x z)) (sym p) (times-zero x t e f)
 
 -- a number less itself
-pub less-itself : (x : Float) → isFinite x ≡ true → Zero (sub binary64 x x)
+pub nothing-left : (x : Float) → isFinite x ≡ true → Zero (sub binary64 x x)
 unfolding isFinite sub add neg
-less-itself nan f = clash f
-less-itself (inf s) f = clash f
-less-itself (fin s m e) f = (false, cancel s (m * up e * down e) (down e * down e) (mul-pos (down-pos e) (down-pos e)))
+nothing-left nan f = clash f
+nothing-left (inf s) f = clash f
+nothing-left (fin s m e) f = (false, cancel s (m * up e * down e) (down e * down e) (mul-pos (down-pos e) (down-pos e)))
 
 -- ---- a double plus a zero
 -- ±a / c plus a zero is ±a / c, or 0.0 where that is -0.0
