@@ -1,18 +1,20 @@
 -- A run that goes nowhere is refused: no span, or no step.
 use mathlib.Core.Path.{_≡_, refl, sym, ap, _∙_, subst}
-use Prim.Native.Nat.{ℕ, zero, suc, _+_, _*_, _<_}
-use native.Mathlib.Nat.{zero-mul, mul-pos}
+use Prim.Native.Nat.{ℕ, _+_, _*_, _<_}
+use native.Mathlib.Nat.{mul-pos}
 use native.Mathlib.Omega.{arith}
-use mathlib.Core.Bool.{Bool, true, false, not, _&&_, _||_, cond, Bool·beq, false≢true, true≢false}
+use mathlib.Core.Bool.{Bool, true, false, not, _&&_, _||_, Bool·beq, false≢true}
 use lib.IntN.{pos}
 use lib.Dec.{eqb}
 use lib.Ieee.{Float, nan, inf, fin, binary64, up, down, unlike, level, round, sum, neg, add, sub, mul, div, lt, eq, ofInt}
-use lib.Ieee.Fits.{up-pos, down-pos}
-use borrow.Author.Tests.{eqb-true, ne-eqb}
+use lib.Ieee.Fits.{down-pos}
+use borrow.Author.Tests.{eqb-true}
+use Rattle.double.proofs.Zeros.{Zero, rounded, zero-is, zero-by}
 use Rattle.triple.specs.Arithmetic.{nought}
 use Rattle.triple.specs.Size.{absolute}
 use Rattle.triple.specs.Finite.{isFinite}
-use Rattle.triple.proofs.Finite.{zero-round, cancel}
+use Rattle.triple.proofs.Finite.{cancel}
+use Rattle.triple.proofs.Zeros.{over-zero}
 use Rattle.plan.specs.declared.Plan.{Plan}
 use Rattle.plan.specs.Limits.{areWithinLimits}
 use Rattle.plan.specs.Plan.{directionOf, planOf, isTooNear}
@@ -38,21 +40,11 @@ unfolding isDated
 finite-step p l = both (isFinite (p .t0) && isFinite (p .tf) && isFinite (p .settings .h)) (isFinite (p .h)) (dated p l) .1
 
 -- ---- the difference of two equal numbers is a zero, of one sign or the other
-abbrev Zero : Float → Type 0
-Zero x = (s : Bool) × (x ≡ fin s 0 (pos 0))
-
-level-zero : (t : Bool) (a b : ℕ) → a ≡ 0 → b ≡ 0 → level t a false b ≡ true
-level-zero t a b h k = ap (λ (x : ℕ). level t x false b) h ∙ ap (λ (x : ℕ). level t 0 false x) k ∙ go t
-  where
-    go : (t : Bool) → level t 0 false 0 ≡ true
-    go true = refl
-    go false = refl
-
 -- -0 + -0, and 0 + 0
 still : (s : Bool) (a c : ℕ) → 0 < c → a ≡ 0 → Zero (sum binary64 s a s a c)
 unfolding sum
-still true a c h n = (true, ap (λ (x : ℕ). round binary64 true (x + x) c) n ∙ zero-round true c h)
-still false a c h n = (false, ap (λ (x : ℕ). round binary64 false (x + x) c) n ∙ zero-round false c h)
+still true a c h n = rounded true (a + a) c (omega (arith, n)) h
+still false a c h n = rounded false (a + a) c (omega (arith, n)) h
 
 -- ±b less ±a, where they are equal
 equal-less : (s t : Bool) (a b c : ℕ) → 0 < c → level s a t b ≡ true → Zero (sum binary64 t b (not s) a c)
@@ -84,17 +76,9 @@ unfolding lt absolute
 small s = ap (lt (fin false 0 (pos 0))) eight-is
 
 no-quotient : (s : Bool) (h : Float) → isFinite h ≡ true → eq h nought ≡ false → lt (absolute (div binary64 (fin s 0 (pos 0)) h)) (ofInt binary64 (pos 8)) ≡ true
-unfolding isFinite div eq
-no-quotient s nan f z = absurd (false≢true f)
-no-quotient s (inf t) f z = absurd (false≢true f)
-no-quotient s (fin t zero d) f z = absurd (true≢false (sym (level-zero t (0 * up d * 1) (0 * down d) (omega arith) (zero-mul (down d))) ∙ z))
-no-quotient s (fin t (suc n) d) f z =
-    let u : 0 < suc n = omega arith in
-    let a : 0 < suc n * up d = mul-pos u (up-pos d) in
-    ap (λ (b : Bool). lt (absolute (cond b nan (round binary64 (unlike s t) (0 * down d) (suc n * up d * 1)))) (ofInt binary64 (pos 8))) (ne-eqb (suc n) 0 (λ (e : suc n ≡ 0). omega arith))
-    ∙ ap (λ (x : ℕ). lt (absolute (round binary64 (unlike s t) x (suc n * up d * 1))) (ofInt binary64 (pos 8))) (zero-mul (down d))
-    ∙ ap (λ (x : Float). lt (absolute x) (ofInt binary64 (pos 8))) (zero-round (unlike s t) (suc n * up d * 1) (omega arith))
-    ∙ small (unlike s t)
+no-quotient s h f z =
+    let (t, p) = over-zero (fin s 0 (pos 0)) h (s, refl) f z in
+    ap (λ (x : Float). lt (absolute x) (ofInt binary64 (pos 8))) p ∙ small t
 
 -- ---- no span
 still-near : (p : Plan) → isLawful p ≡ true → eq (p .t0) (p .tf) ≡ true → isTooNear p ≡ true
@@ -113,15 +97,11 @@ no-span s t0 tf r0 v0 l q = near-start s t0 tf r0 v0 l (still-near (planOf s t0 
 
 -- ---- no step
 zero-step : (x : Float) (t : Bool) → eq x nought ≡ true → eq (mul binary64 (absolute x) (fin t 1 (pos 0))) nought ≡ true
-unfolding eq absolute mul
-zero-step nan t h = absurd (false≢true h)
-zero-step (inf s) t h = absurd (false≢true h)
-zero-step (fin s m e) t h =
-    let z : m * up e * 1 ≡ 0 * down e = eqb-true (m * up e * 1) (0 * down e) (both (eqb (m * up e * 1) (0 * down e)) (Bool·beq s false || eqb (m * up e * 1) 0) h .0) in
-    let y : m * up e * (1 * 1) ≡ 0 = omega arith in
-    ap (λ (x : ℕ). eq (round binary64 (unlike false t) x (down e * 1)) nought) y
-    ∙ ap (λ (x : Float). eq x nought) (zero-round (unlike false t) (down e * 1) (mul-pos (down-pos e) (omega arith)))
-    ∙ level-zero (unlike false t) 0 0 refl refl
+unfolding absolute mul
+zero-step x t h =
+    let (s, (e, p)) = zero-by x h in
+    subst (λ (y : Float). eq (mul binary64 (absolute y) (fin t 1 (pos 0))) nought ≡ true) (sym p)
+    (zero-is _ (rounded (unlike false t) (0 * up e * 1) (down e * 1) (omega arith) (mul-pos (down-pos e) (omega arith))))
 
 pub no-step : NoStep
 unfolding isTooNear planOf

@@ -9,7 +9,7 @@ use lib.Ieee.{Float, nan, inf, fin, binary64, up, down, unlike, round, neg, mul,
 use Rattle.triple.specs.Size.{absolute}
 use Rattle.triple.specs.Finite.{isFinite}
 use Rattle.triple.specs.Doubles.{Double}
-use Rattle.triple.proofs.Doubles.{any-sign, own-round}
+use Rattle.double.proofs.Own.{any-sign, own-round}
 use Rattle.plan.specs.declared.Settings.{Settings}
 use Rattle.plan.specs.Limits.{areWithinLimits}
 use Rattle.plan.specs.Plan.{directionOf, planOf, isTooNear}

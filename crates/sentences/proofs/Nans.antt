@@ -1,7 +1,8 @@
 -- A NaN time is neither below nor above any end, and its curve is NaN throughout.
 use mathlib.Core.Path.{_≡_, refl}
 use mathlib.Core.Bool.{false}
-use lib.Ieee.{Float, nan, inf, fin, binary64, add, sub, mul, div, lt}
+use lib.Ieee.{Float, nan, add, sub, mul, div, lt}
+use Rattle.double.proofs.Nans.{add-nan, mul-nan, none-below}
 use Rattle.triple.specs.declared.Triple.{Triple}
 use Rattle.triple.specs.declared.Sample.{Sample}
 use Rattle.triple.specs.Arithmetic.{plus, times, over}
@@ -11,31 +12,13 @@ use Rattle.intervals.specs.Intervals.{endsOf}
 use Rattle.dense.specs.Interpolation.{isOutside, valueAt}
 use Rattle.sentences.specs.Sentences.{NanNotRefused, NanGivesNan}
 
-pub none-above : (x : Float) → lt x nan ≡ false
+above-none : (x : Float) → lt nan x ≡ false
 unfolding lt
-none-above nan = refl
-none-above (inf s) = refl
-none-above (fin s m e) = refl
-
-none-below : (x : Float) → lt nan x ≡ false
-unfolding lt
-none-below x = refl
+above-none x = refl
 
 pub nan-not-refused : NanNotRefused
 unfolding isOutside
-nan-not-refused l = rw (none-below (endsOf l .lower), none-above (endsOf l .upper))
-
-mul-nan : (x : Float) → mul binary64 x nan ≡ nan
-unfolding mul
-mul-nan nan = refl
-mul-nan (inf s) = refl
-mul-nan (fin s m e) = refl
-
-pub add-nan : (x : Float) → add binary64 x nan ≡ nan
-unfolding add
-add-nan nan = refl
-add-nan (inf s) = refl
-add-nan (fin s m e) = refl
+nan-not-refused l = rw (above-none (endsOf l .lower), none-below (endsOf l .upper))
 
 times-nan : (a : Triple) → times a nan ≡ nans
 unfolding times

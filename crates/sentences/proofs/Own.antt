@@ -4,17 +4,19 @@ use mathlib.Core.Path.{_≡_, refl, sym, ap, _∙_, subst}
 use mathlib.Core.Bool.{Bool, true, false}
 use lib.IntN.{pos}
 use lib.Ieee.{Float, nan, binary64, round, neg, add, sub, mul, div, eq, ofInt, fits}
+use Rattle.double.proofs.Zeros.{Zero, zero-is}
+use Rattle.double.proofs.Nans.{add-nan}
 use Rattle.triple.specs.declared.Sample.{Sample}
 use Rattle.triple.specs.Arithmetic.{nought, plus, minus, times, over}
 use Rattle.triple.specs.Finite.{isFinite}
 use Rattle.triple.specs.Doubles.{Double}
+use Rattle.triple.proofs.Zeros.{zero-finite, product, sum-zero, over-zero, zero-over-zero, nothing-left}
 use Rattle.quintic.specs.Quintic.{delta1, delta2, delta3, curveOf, accelerationOn, quinticHermite}
 use Rattle.intervals.specs.Table.{sampleOf, timeOf}
 use Rattle.dense.specs.Interpolation.{valueAt}
 use Rattle.sentences.specs.Sentences.{timeTo, shareAt, squareOf, Again, AgainEach, Smooth, AtShareZero, AtTinyTime, AtOwnTime, AtSampleAgain, StarredIsSmooth}
-use Rattle.sentences.proofs.Nans.{add-nan}
 use Rattle.sentences.proofs.Strict.{clash}
-use Rattle.sentences.proofs.Zeros.{second-of-difference, second-of-product, Zero, sum-zero, over-zero, zero-over-zero, zero-is, zero-finite, product, nothing-left, plus-zero}
+use Rattle.sentences.proofs.Zeros.{second-of-difference, second-of-product, plus-zero}
 use Rattle.sentences.proofs.Inner.{starts-there}
 
 -- the whole number n, as the curve has it

@@ -7,8 +7,8 @@ use native.Mathlib.Nat.{le-refl}
 use lib.Dec.{ltb, eqb}
 use lib.Ieee.{Float, nan, inf, fin, up, down, below, level, lt, eq, le}
 use borrow.Author.Tests.{le-ltb, ltb-true, eqb-true, eq-eqb, ne-eqb}
+use Rattle.double.proofs.Nans.{none-below}
 use Rattle.intervals.specs.Intervals.{reached, isShort}
-use Rattle.sentences.proofs.Nans.{none-above}
 
 pub clash : {A : Type 0} → false ≡ true → A
 clash e = let z : _≡_ {A = ℕ} 0 1 = cc in absurd (omega arith)
@@ -77,7 +77,7 @@ own (fin false m e) y h = alike (m * up e * down e)
 
 own-too : (x y : Float) → lt x y ≡ true → le y y ≡ true
 unfolding lt eq le
-own-too x nan h = clash (sym (none-above x) ∙ h)
+own-too x nan h = clash (sym (none-below x) ∙ h)
 own-too x (inf true) h = refl
 own-too x (inf false) h = refl
 own-too x (fin true m e) h = alike (m * up e * down e)

@@ -4,13 +4,12 @@ use Prim.Native.Nat.{ℕ, _-_, _*_, _<_}
 use native.Mathlib.Nat.{mul-pos, sub-self}
 use native.Mathlib.Omega.{arith}
 use mathlib.Core.Bool.{Bool, true, false, not, cond}
-use lib.IntN.{pos}
 use lib.Dec.{ltb}
 use lib.Ieee.{Float, nan, inf, fin, binary64, up, down, round, sum, neg, add, sub, eq}
 use lib.Ieee.Exact.{HasValue}
 use lib.Ieee.Fits.{down-pos}
-use lib.Ieee.Scale.{round-same}
 use borrow.Author.Tests.{le-ltb}
+use Rattle.double.proofs.Own.{zero-round}
 use Rattle.triple.specs.Arithmetic.{nought}
 use Rattle.triple.specs.Finite.{isFinite}
 
@@ -20,14 +19,6 @@ unfolding isFinite
 has-value nan s a c h = absurd h
 has-value (inf t) s a c h = absurd h
 has-value (fin t m e) s a c h = refl
-
-pub zero-round : (s : Bool) (c : ℕ) → 0 < c → round binary64 s 0 c ≡ fin s 0 (pos 0)
-unfolding round
-zero-round s c h = round-same binary64 s 0 c 0 1 h (omega arith) (omega arith) ∙ go s
-  where
-    go : (s : Bool) → round binary64 s 0 1 ≡ fin s 0 (pos 0)
-    go true = refl
-    go false = refl
 
 -- ±a and ∓a
 pub cancel : (s : Bool) (a c : ℕ) → 0 < c → sum binary64 s a (not s) a c ≡ nought

@@ -1,16 +1,17 @@
 -- What the tests `x == 0.0`, `x < 0.0` and `x != x` tell of a float.
 use mathlib.Core.Path.{_≡_, refl, sym, ap, subst}
-use Prim.Native.Nat.{ℕ, zero, suc, _+_, _*_, _≤_, _<_}
+use Prim.Native.Nat.{ℕ, _+_, _*_}
 use native.Mathlib.Nat.{zero-mul}
 use native.Mathlib.Omega.{arith}
-use mathlib.Core.Bool.{Bool, true, false, not, _&&_, _||_}
-use lib.Dec.{T, eqb, ltb, eqb→eq, ltb→lt, nltb→le, eqb-refl}
-use lib.IntN.{ℤ, pos}
-use lib.Ieee.{Float, nan, inf, fin, binary64, up, down, level, neg, lt, eq, ne, fits, isNan}
-use lib.Ieee.Fits.{and-i, and-l, eq→eqb}
-use lib.Ieee.Back.{whole-unique}
+use mathlib.Core.Bool.{Bool, true, false, not, _&&_}
+use lib.Dec.{T, eqb, ltb→lt, nltb→le, eqb-refl}
+use lib.Ieee.{Float, nan, inf, fin, up, down, level, neg, lt, eq, ne, isNan}
+use lib.Ieee.Fits.{and-i, eq→eqb}
 use lib.Ieee.Bits.{is-true}
 use lib.Ieee.Compare.{differs-from-itself}
+use Rattle.double.specs.Doubles.{Double}
+use Rattle.double.proofs.Own.{zero-own}
+use Rattle.double.proofs.Zeros.{zero-by}
 use Rattle.triple.specs.Arithmetic.{nought}
 use Rattle.triple.specs.Size.{absolute}
 
@@ -24,19 +25,12 @@ clash : (b : Bool) → T b → T (not b) → ⊥
 clash true t n = n
 clash false t n = t
 
--- a zero is written in one way, so both zeros have 0.0 for their absolute value
-pub at-zero : (x : Float) → T (fits binary64 x) → T (eq x nought) → nought ≡ absolute x
-unfolding eq absolute
-at-zero nan f t = absurd t
-at-zero (inf s) f t = absurd t
-at-zero (fin s m e) f t = whole-unique binary64 nought (fin false m e) false 0 (zero-fits) (same-fits m f) (refl, refl) (refl, eqb→eq (m * up e * 1) (0 * down e) (and-l (eqb (m * up e * 1) (0 * down e)) _ t))
-  where
-    zero-fits : T (fits binary64 nought)
-    zero-fits = unfold fits in tt
-
-    same-fits : (m : ℕ) → T (fits binary64 (fin s m e)) → T (fits binary64 (fin false m e))
-    same-fits zero f = unfold fits in f
-    same-fits (suc m) f = unfold fits in f
+-- both zeros have 0.0 for their absolute value
+pub at-zero : (x : Float) → Double x → T (eq x nought) → nought ≡ absolute x
+unfolding absolute
+at-zero x f t =
+    let (s, (e, p)) = zero-by x (is-true (eq x nought) t) in
+    subst (λ (y : Float). nought ≡ absolute y) (sym p) (ap (fin false 0) (sym (zero-own s e (subst (λ (y : Float). Double y) p f))))
 
 pub below-zero : (x : Float) → T (lt x nought) → neg x ≡ absolute x
 unfolding lt neg absolute

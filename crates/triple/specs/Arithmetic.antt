@@ -1,12 +1,7 @@
 -- 01: "Vector operations are taken component by component; each product and each sum is rounded once, and division is a true division".
-use mathlib.Core.Bool.{false}
-use lib.IntN.{pos}
-use lib.Ieee.{Float, fin, binary64, add, sub, mul, div}
+use lib.Ieee.{Float, binary64, add, sub, mul, div}
+pub use Rattle.double.specs.Doubles.{nought}
 use Rattle.triple.specs.declared.Triple.{Triple}
-
--- 0.0, what every sum starts from
-abbrev pub nought : Float
-nought = fin false 0 (pos 0)
 
 unfoldable pub zeros : Triple
 zeros = record { x = nought; y = nought; z = nought }

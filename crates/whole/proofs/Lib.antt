@@ -3,6 +3,5 @@ pub mod Values
 pub mod Exact
 pub mod Quotient
 pub mod Short
-pub mod Signs
 pub mod Integers
 pub mod Along

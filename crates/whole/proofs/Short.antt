@@ -1,18 +1,19 @@
 -- The tail test |x| - |y| < -1e-12·|y| of whole numbers is |x| < |y|, for |y| from 1 to 10 ^ 9.
 use mathlib.Core.Path.{_≡_, refl, sym, ap, _∙_, subst}
-use Prim.Native.Nat.{ℕ, zero, suc, _+_, _-_, _*_, _/_, _%_, _^_, _≤_, _<_, min, max, compare}
+use Prim.Native.Nat.{ℕ, zero, suc, _+_, _*_, _^_, _≤_, _<_, min, max}
 use native.Mathlib.Nat.{mul-one, mul-pos, mul-le-mul-right}
 use native.Mathlib.Omega.{arith}
-use mathlib.Core.Bool.{Bool, true, false, not, _&&_, _||_, cond}
+use mathlib.Core.Bool.{Bool, true, false, _&&_}
 use lib.IntN.{ℤ, negsuc}
-use lib.Dec.{T, ltb, eqb, lt→ltb, ltb→lt, eqb→eq, lit<}
+use lib.Dec.{T, ltb, lt→ltb, ltb→lt, lit<}
 use lib.Arith.{le→nltb}
-use lib.Ieee.{Float, nan, inf, fin, Format, binary64, prec, emax, low, up, down, unlike, odd, units, size, nearest, round, below, neg, sub, mul, lt, le}
-use lib.Ieee.Fits.{down-pos, round-is}
+use lib.Ieee.{Float, inf, fin, Format, binary64, up, down, unlike, round, below, neg, sub, mul, lt, le}
+use lib.Ieee.Fits.{down-pos}
 use lib.Ieee.Exact.{HasValue}
 use lib.Ieee.Order.{round-mono}
 use lib.Ieee.Scale.{round-same}
 use lib.Ieee.Bits.{is-true, is-false}
+use Rattle.double.proofs.Signs.{Clear, round-clear, at-most}
 use Rattle.triple.specs.Size.{absolute}
 use Rattle.whole.proofs.Scale.{bool-ext}
 use Rattle.whole.proofs.Exact.{Diff, Is, move, absolute-whole, sub-whole}
@@ -41,38 +42,6 @@ mul-by f s c e (fin v n d) t b k =
     ∙ ap (λ (z : ℕ). round f (unlike s t) (c * up e * z) (down e * down d)) (sym (mul-one (n * up d)) ∙ k .1)
     ∙ round-same f (unlike s t) (c * up e * (b * down d)) (down e * down d) (c * up e * b) (down e) (mul-pos (down-pos e) (down-pos d)) (down-pos e) (omega arith)
 
--- `round f false` is not negative and no NaN
-abbrev pub Clear : Float → Type 0
-Clear nan = ⊥
-Clear (inf s) = T (not s)
-Clear (fin s m e) = T (not s)
-
-pub round-clear : (f : Format) (a c : ℕ) → Clear (round f false a c)
-round-clear f a c =
-    let n = a * 2 ^ low f in
-    let k = size (n / c) - prec f in
-    let u = c * 2 ^ k in
-    subst Clear (sym (round-is f false a c)) (go (nearest (n / u) (compare (n % u * 2) u)) k)
-  where
-    of-odd : (d q k l : ℕ) → Clear (odd d false q k l)
-    of-odd d zero k l = unfold odd in tt
-    of-odd d (suc q) k l = unfold odd in tt
-
-    pick : (c : Bool) (q k : ℕ) → Clear (cond c (odd (suc (prec f)) false q k (low f)) (inf false))
-    pick true q k = of-odd (suc (prec f)) q k (low f)
-    pick false q k = tt
-
-    go : (q k : ℕ) → Clear (units f false q k)
-    go q k = unfold units in pick (ltb (q * 2 ^ k) (2 ^ (low f + suc (emax f)))) q k
-
-le-nat : (a b : ℕ) → T (ltb a b || (eqb a b && true)) → a ≤ b
-le-nat a b t = go (ltb a b) (eqb a b) (ltb→lt a b) (eqb→eq a b) t
-  where
-    go : (x y : Bool) → (T x → a < b) → (T y → a ≡ b) → T (x || (y && true)) → a ≤ b
-    go true y f g t = let l = f tt in omega arith
-    go false true f g t = let l = g tt in omega arith
-    go false false f g t = absurd t
-
 -- m < 0 fails, and N / dd ≤ 1 / 2 is below any m that is 1 at least
 half-test : (m N de dd : ℕ) → 0 < de → 0 < dd → N * 2 ≤ 1 * dd → ltb (N * de) (m * de * dd) ≡ ltb 0 m
 half-test zero N de dd E D h = is-false (ltb (N * de) (0 * de * dd)) (le→nltb (N * de) (0 * de * dd) (omega arith))
@@ -91,7 +60,7 @@ below-half (fin u k e) s m (fin false n d) v c h =
     ap (λ (z : Bool). below z (k * up e * down d) true (n * up d * down e)) (v .0) ∙ go s
   where
     P2 : n * up d * 2 ≤ 1 * down d
-    P2 = le-nat (n * up d * 2) (1 * down d) h
+    P2 = at-most (n * up d * 2) (1 * down d) h
 
     E : k * up e ≡ m * down e
     E = sym (mul-one (k * up e)) ∙ v .1

@@ -1,17 +1,19 @@
--- A double is what its own fraction is rounded to: m * 2 ^ e, over the units of 2 ^ -1074, is held whole, and what is held is written in one way.
+-- A double is a whole number of units of 2 ^ -1074, and it is what its own fraction is rounded to: m * 2 ^ e, over the units, is held whole, and
+-- what is held is written in one way.
 use mathlib.Core.Path.{_≡_, refl, sym, ap, _∙_, subst}
-use Prim.Native.Nat.{ℕ, zero, suc, _+_, _-_, _*_, _%_, _^_, _≤_, _<_}
-use native.Mathlib.Nat.{lt-of-lt-of-le, lt-of-not-le, not-le-of-lt, mul-one, mul-assoc, mul-left-comm, mul-pos, zero-lt-suc, pow-succ'}
+use Prim.Native.Nat.{ℕ, zero, suc, _+_, _-_, _*_, _/_, _%_, _^_, _≤_, _<_}
+use native.Mathlib.Nat.{lt-of-lt-of-le, lt-of-not-le, not-le-of-lt, mul-one, mul-assoc, mul-left-comm, mul-pos, zero-mul, zero-lt-suc, mul-div-cancel, pow-succ'}
 use native.Mathlib.Omega.{arith}
-use mathlib.Core.Bool.{Bool, _&&_}
-use lib.Dec.{eqb, ltb, leb, eqb→eq, ltb→lt, leb→le}
+use mathlib.Core.Bool.{Bool, true, false, _&&_}
+use lib.Dec.{eqb, ltb, leb, eqb→eq, ltb→lt, leb→le, lit<}
 use lib.IntN.{ℤ, pos, negsuc}
 use lib.Pow.{pow-add, pow-lt, pow-mono, shl-lt}
 use lib.Ieee.{Float, nan, inf, fin, binary64, up, down, round, fits}
 use lib.Ieee.Exact.{HasValue, round-exact}
 use lib.Ieee.Fits.{and-l, and-r, up-pos, down-pos, round-fits}
-use Rattle.triple.specs.Doubles.{Double}
-use Rattle.triple.proofs.Finite.{zero-round}
+use lib.Ieee.Scale.{round-same}
+use Rattle.double.specs.Doubles.{Double}
+use Rattle.double.specs.Units.{inUnits}
 
 -- ---- m * 2 ^ e in units of 2 ^ -L: 2 ^ e is 2 ^ lifted L e of them
 abbrev lifted : ℕ → ℤ → ℕ
@@ -55,6 +57,42 @@ held s m e f =
       below = ltb→lt (suc m * up e) (2 ^ 1024 * down e) (and-r (eqb (suc m % 2) 1 && ltb (suc m) (2 ^ 53) && leb (down e) (2 ^ 1074)) (ltb (suc m * up e) (2 ^ 1024 * down e)) f);
     }
 
+-- ---- in units
+pub record Counted (m : ℕ) (e : ℤ) : Type 0 where
+  pub k : ℕ
+  pub digits : m < 2 ^ 53
+  pub is : inUnits m e ≡ m * 2 ^ k
+  pub few : inUnits m e < 2 ^ 2098
+  pub exact : m * up e * 2 ^ 1074 ≡ inUnits m e * down e
+
+pub counted : (s : Bool) (m : ℕ) (e : ℤ) → Double (fin s m e) → Counted m e
+unfolding inUnits
+counted s zero e f =
+    let none : 0 * up e * 2 ^ 1074 ≡ 0 * down e = ap (λ (z : ℕ). z * 2 ^ 1074) (zero-mul (up e)) ∙ zero-mul (2 ^ 1074) ∙ sym (zero-mul (down e)) in
+    let is : 0 * up e * 2 ^ 1074 / down e ≡ 0 = ap (λ (z : ℕ). z / down e) none ∙ mul-div-cancel 0 (down-pos e) in
+    record {
+      k = 0;
+      digits = lit< tt;
+      is = is;
+      few = subst (λ (z : ℕ). z < 2 ^ 2098) (sym is) (lit< tt);
+      exact = none ∙ ap (λ (z : ℕ). z * down e) (sym is);
+    }
+counted s (suc m) e f =
+    let h = held s m e f in
+    let k = lifted 1074 e in
+    let exact : suc m * up e * 2 ^ 1074 ≡ suc m * 2 ^ k * down e = same 1074 (suc m) e (h .deep) in
+    let is : suc m * up e * 2 ^ 1074 / down e ≡ suc m * 2 ^ k = ap (λ (z : ℕ). z / down e) exact ∙ mul-div-cancel (suc m * 2 ^ k) (down-pos e) in
+    record {
+      k = k;
+      digits = h .small;
+      is = is;
+      few = subst (λ (z : ℕ). z < 2 ^ 2098) (sym is) (bounded 1074 1024 (suc m) e (omega arith) (h .small) (h .below));
+      exact = exact ∙ ap (λ (z : ℕ). z * down e) (sym is);
+    }
+
+pub units-exact : (s : Bool) (m : ℕ) (e : ℤ) → Double (fin s m e) → m * up e * 2 ^ 1074 ≡ inUnits m e * down e
+units-exact s m e f = counted s m e f .exact
+
 -- ---- it is written in one way
 twice : (m a : ℕ) → m * 2 ^ suc a ≡ 2 * (m * 2 ^ a)
 twice m a = ap (λ (z : ℕ). m * z) (pow-succ' 2 a) ∙ mul-left-comm m 2 (2 ^ a)
@@ -92,10 +130,23 @@ alike (fin t (suc n) d) s m e f h v =
     λ i. fin (v .0 i) (r .0 i) (r .1 i)
 
 -- ---- 0 has the exponent 0
+pub zero-round : (s : Bool) (c : ℕ) → 0 < c → round binary64 s 0 c ≡ fin s 0 (pos 0)
+unfolding round
+zero-round s c h = round-same binary64 s 0 c 0 1 h (omega arith) (omega arith) ∙ go s
+  where
+    go : (s : Bool) → round binary64 s 0 1 ≡ fin s 0 (pos 0)
+    go true = refl
+    go false = refl
+
 level : (e : ℤ) → up e * down e ≡ 1 → e ≡ pos 0
 level (pos zero) h = refl
 level (pos (suc k)) h = absurd (omega (arith, h, twice 1 k))
 level (negsuc k) h = absurd (omega (arith, h, twice 1 k))
+
+-- a zero that is an f64 is 0.0 or -0.0
+pub zero-own : (s : Bool) (e : ℤ) → Double (fin s 0 e) → e ≡ pos 0
+unfolding fits
+zero-own s e f = level e (eqb→eq (up e * down e) 1 f)
 
 pub any-sign : (s t : Bool) (m : ℕ) (e : ℤ) → Double (fin s m e) → Double (fin t m e)
 unfolding fits
@@ -103,12 +154,11 @@ any-sign s t zero e f = f
 any-sign s t (suc m) e f = f
 
 pub own-round : (s : Bool) (m : ℕ) (e : ℤ) → Double (fin s m e) → round binary64 s (m * up e) (down e) ≡ fin s m e
-unfolding fits
 own-round s zero e f =
     let none : 0 * up e ≡ 0 = omega arith in
     ap (λ (z : ℕ). round binary64 s z (down e)) none
     ∙ zero-round s (down e) (down-pos e)
-    ∙ ap (fin s 0) (sym (level e (eqb→eq (up e * down e) 1 f)))
+    ∙ ap (fin s 0) (sym (zero-own s e f))
 own-round s (suc m) e f =
     let h = held s m e f in
     alike (round binary64 s (suc m * up e) (down e)) s m e (round-fits binary64 s (suc m * up e) (down e)) h

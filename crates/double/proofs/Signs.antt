@@ -1,16 +1,38 @@
--- A size, a sum of sizes and a quotient of sizes are never negative: so a tolerance that is not above zero stops nothing.
+-- What is never negative: a rounded fraction, a square, a sum and a quotient of such numbers. None is below a tolerance that is not above zero.
 use mathlib.Core.Path.{_≡_, refl, sym, subst}
-use Prim.Native.Nat.{ℕ, _+_, _*_, _≤_, _<_}
+use Prim.Native.Nat.{ℕ, zero, suc, _+_, _-_, _*_, _/_, _%_, _^_, _≤_, _<_, compare}
 use native.Mathlib.Nat.{zero-mul}
 use native.Mathlib.Omega.{arith}
-use mathlib.Core.Bool.{Bool, true, false, not, _&&_, _||_, cond, false≢true}
+use mathlib.Core.Bool.{Bool, true, false, not, _&&_, _||_, cond}
 use lib.Dec.{T, ltb, eqb, eqb→eq, ltb→lt}
-use lib.Ieee.{Float, nan, inf, fin, binary64, up, down, round, sum, add, div, lt, le, eq, isNan}
+use lib.Ieee.{Float, nan, inf, fin, Format, binary64, prec, emax, low, up, down, odd, units, size, nearest, round, sum, add, mul, div, lt, le, eq}
+use lib.Ieee.Fits.{round-is}
 use borrow.Author.Tests.{ltb-false, le-ltb}
-use Rattle.triple.specs.declared.Triple.{Triple}
-use Rattle.triple.specs.Arithmetic.{nought}
-use Rattle.triple.specs.Size.{absolute, largerOf, sizeOf}
-use Rattle.whole.proofs.Short.{Clear, round-clear}
+use Rattle.double.specs.Doubles.{nought}
+
+-- not negative, and no NaN
+abbrev pub Clear : Float → Type 0
+Clear nan = ⊥
+Clear (inf s) = T (not s)
+Clear (fin s m e) = T (not s)
+
+pub round-clear : (f : Format) (a c : ℕ) → Clear (round f false a c)
+round-clear f a c =
+    let n = a * 2 ^ low f in
+    let k = size (n / c) - prec f in
+    let u = c * 2 ^ k in
+    subst Clear (sym (round-is f false a c)) (go (nearest (n / u) (compare (n % u * 2) u)) k)
+  where
+    of-odd : (d q k l : ℕ) → Clear (odd d false q k l)
+    of-odd d zero k l = unfold odd in tt
+    of-odd d (suc q) k l = unfold odd in tt
+
+    pick : (c : Bool) (q k : ℕ) → Clear (cond c (odd (suc (prec f)) false q k (low f)) (inf false))
+    pick true q k = of-odd (suc (prec f)) q k (low f)
+    pick false q k = tt
+
+    go : (q k : ℕ) → Clear (units f false q k)
+    go q k = unfold units in pick (ltb (q * 2 ^ k) (2 ^ (low f + suc (emax f)))) q k
 
 -- not negative, or NaN
 abbrev pub Plain : Float → Type 0
@@ -26,28 +48,19 @@ plain-of-clear (fin s m e) h = h
 pub plain-round : (a c : ℕ) → Plain (round binary64 false a c)
 plain-round a c = plain-of-clear (round binary64 false a c) (round-clear binary64 a c)
 
-plain-cond : (b : Bool) (x y : Float) → Plain x → Plain y → Plain (cond b x y)
+pub plain-cond : (b : Bool) (x y : Float) → Plain x → Plain y → Plain (cond b x y)
 plain-cond true x y h k = h
 plain-cond false x y h k = k
 
--- ---- sizes
-plain-absolute : (x : Float) → Plain (absolute x)
-unfolding absolute
-plain-absolute nan = tt
-plain-absolute (inf s) = tt
-plain-absolute (fin s m e) = tt
+-- ---- squares, sums and quotients
+pub plain-square : (x : Float) → Plain (mul binary64 x x)
+unfolding mul
+plain-square nan = tt
+plain-square (inf true) = tt
+plain-square (inf false) = tt
+plain-square (fin true m e) = plain-round (m * up e * (m * up e)) (down e * down e)
+plain-square (fin false m e) = plain-round (m * up e * (m * up e)) (down e * down e)
 
-pub plain-larger : (x y : Float) → Plain x → Plain y → Plain (largerOf x y)
-unfolding largerOf
-plain-larger x y h k = plain-cond (lt x y) y x k h
-
-pub plain-size : (a : Triple) → Plain (sizeOf a)
-unfolding sizeOf
-plain-size a =
-    plain-cond (isNan (a .x) || isNan (a .y) || isNan (a .z)) nan (largerOf (largerOf (absolute (a .x)) (absolute (a .y))) (absolute (a .z))) tt
-    (plain-larger (largerOf (absolute (a .x)) (absolute (a .y))) (absolute (a .z)) (plain-larger (absolute (a .x)) (absolute (a .y)) (plain-absolute (a .x)) (plain-absolute (a .y))) (plain-absolute (a .z)))
-
--- ---- sums and quotients
 pub plain-add : (x y : Float) → Plain x → Plain y → Plain (add binary64 x y)
 unfolding add sum
 plain-add nan y h k = tt
@@ -99,20 +112,19 @@ not-below (fin false m e) (fin false n d) h k =
     let y : n * up d ≡ 0 = omega (arith, z, zero-mul (down d)) in
     le-ltb (m * up e * down d) (n * up d * down e) (subst (λ (x : ℕ). x * down e ≤ m * up e * down d) (sym y) (omega arith))
 
+-- "at most", as floats without a minus sign are compared
+pub at-most : (a b : ℕ) → T (ltb a b || (eqb a b && true)) → a ≤ b
+at-most a b t = go (ltb a b) (eqb a b) (ltb→lt a b) (eqb→eq a b) t
+  where
+    go : (x y : Bool) → (T x → a < b) → (T y → a ≡ b) → T (x || (y && true)) → a ≤ b
+    go true y f g t = let l = f tt in omega arith
+    go false true f g t = let l = g tt in omega arith
+    go false false f g t = absurd t
+
 pub not-above : (tol : Float) → le tol nought ≡ true → lt nought tol ≡ false
 unfolding le lt eq
 not-above nan h = refl
 not-above (inf true) h = refl
 not-above (inf false) h = sym h
 not-above (fin true n d) h = refl
-not-above (fin false n d) h =
-    let z : n * up d * 1 ≡ 0 = at-zero (n * up d * 1) (0 * down d) true (zero-mul (down d)) h in
-    le-ltb (0 * down d) (n * up d * 1) (omega (arith, z))
-  where
-    at-zero : (a z : ℕ) (c : Bool) → z ≡ 0 → ltb a z || (eqb a z && c) ≡ true → a ≡ 0
-    at-zero a z c h k = go (ltb a z) (eqb a z) (ltb→lt a z) (eqb→eq a z) k
-      where
-        go : (x y : Bool) → (T x → a < z) → (T y → a ≡ z) → x || (y && c) ≡ true → a ≡ 0
-        go true y f g k = let l = f tt in absurd (omega arith)
-        go false true f g k = let l = g tt in omega arith
-        go false false f g k = absurd (false≢true k)
+not-above (fin false n d) h = le-ltb (0 * down d) (n * up d * 1) (at-most (n * up d * 1) (0 * down d) (subst T (sym h) tt))
