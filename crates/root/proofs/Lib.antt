@@ -1,0 +1,12 @@
+pub mod Isqrt
+pub mod Steps
+pub mod Evening
+pub mod Halves
+pub mod Rounding
+pub mod Written
+pub mod Read
+pub mod Cases
+pub mod Neighbours
+pub mod Nearest
+pub mod Squares
+pub mod Examples
