@@ -2,21 +2,22 @@
 -- binary64, and every row keeps its nine.
 use mathlib.Core.Path.{_≡_, refl, _∙_}
 use Prim.Native.Nat.{ℕ, zero, suc}
-use mathlib.Core.Bool.{Bool, true, false, _||_}
+use mathlib.Core.Bool.{Bool, true, false}
 use mathlib.Core.List.{List, [], _∷_}
 use lib.Dec.{eqb, ltb}
 use lib.ListN.{length, set, length-set}
 use lib.Seq.{getD-set-same, getD-set-other, set-out}
-use lib.Ieee.{Float, nan, inf, fin, binary64, fits, lt, isNan}
-use lib.Ieee.Fits.{add-fits, sub-fits, mul-fits, round-fits, cond-fits, nan-fits, inf-fits}
+use lib.Ieee.{Float, nan, binary64, fits, lt}
+use lib.Ieee.Fits.{add-fits, mul-fits, round-fits, cond-fits, nan-fits}
 use borrow.Author.Tests.{eqb-true, eqb-false, ltb-true, ltb-false}
 use Rattle.triple.specs.declared.Triple.{Triple}
 use Rattle.triple.specs.declared.State.{State}
 use Rattle.triple.specs.declared.Point.{Point}
 use Rattle.triple.specs.Arithmetic.{nought, zeros, plus, minus, times}
-use Rattle.triple.specs.Size.{absolute, largerOf, sizeOf}
+use Rattle.triple.specs.Size.{largerOf, sizeOf, tiny}
 use Rattle.triple.specs.Nine.{at, nineZeros, slid}
 use Rattle.triple.specs.Doubles.{Double, Doubles}
+use Rattle.triple.proofs.Signs.{double-size}
 use Rattle.rk4.specs.Rk4.{endOfStep}
 use Rattle.sums.specs.declared.Sums.{Sums}
 use Rattle.sums.specs.declared.Fixed.{Fixed}
@@ -25,7 +26,7 @@ use Rattle.sums.specs.Sums.{onSums, pointOf, predictedState, fixedOf, corrected
 use Rattle.startup.specs.declared.Places.{Places}
 use Rattle.startup.specs.declared.Widest.{Widest}
 use Rattle.startup.specs.Points.{timeAt, placed}
-use Rattle.startup.specs.Passes.{sumsOn, lastSums, tiny, widened, calmAt, pointOn, pointBack, pointsOn, pointsBack, passPlaces}
+use Rattle.startup.specs.Passes.{sumsOn, lastSums, widened, calmAt, pointOn, pointBack, pointsOn, pointsBack, passPlaces}
 
 abbrev pub F : Float → Type 0
 F x = Double x
@@ -52,10 +53,6 @@ zeros-fit = record { x = nought-fits; y = nought-fits; z = nought-fits }
 pub plus-fit : (a b : Triple) → Fit (plus a b)
 unfolding plus
 plus-fit a b = record { x = add-fits binary64 (a .x) (b .x); y = add-fits binary64 (a .y) (b .y); z = add-fits binary64 (a .z) (b .z) }
-
-minus-fit : (a b : Triple) → Fit (minus a b)
-unfolding minus
-minus-fit a b = record { x = sub-fits binary64 (a .x) (b .x); y = sub-fits binary64 (a .y) (b .y); z = sub-fits binary64 (a .z) (b .z) }
 
 times-fit : (a : Triple) (k : Float) → Fit (times a k)
 unfolding times
@@ -94,31 +91,18 @@ unfolding timeAt
 time-fit t h i = add-fits binary64 t _
 
 -- ---- the size, and the largest
-absolute-fit : (x : Float) → F x → F (absolute x)
-unfolding absolute
-absolute-fit nan h = h
-absolute-fit (inf s) h = inf-fits binary64 false
-absolute-fit (fin s zero e) h = unfold fits in h
-absolute-fit (fin s (suc m) e) h = unfold fits in h
-
 larger-fit : (x y : Float) → F x → F y → F (largerOf x y)
 unfolding largerOf
 larger-fit x y h k = cond-fits binary64 (lt x y) y x k h
-
-size-fit : (t : Triple) → Fit t → F (sizeOf t)
-unfolding sizeOf
-size-fit t h =
-    cond-fits binary64 (isNan (t .x) || isNan (t .y) || isNan (t .z)) nan (largerOf (largerOf (absolute (t .x)) (absolute (t .y))) (absolute (t .z))) (nan-fits binary64)
-    (larger-fit (largerOf (absolute (t .x)) (absolute (t .y))) (absolute (t .z)) (larger-fit (absolute (t .x)) (absolute (t .y)) (absolute-fit (t .x) (h .x)) (absolute-fit (t .y) (h .y))) (absolute-fit (t .z) (h .z)))
 
 pub record FitWidest (w : Widest) : Type 0 where
   pub delta : F (w .delta)
   pub mag : F (w .mag)
 
-pub widened-fit : (w : Widest) (a b : Triple) → FitWidest w → Fit b → FitWidest (widened w a b)
+pub widened-fit : (w : Widest) (a b : Triple) → FitWidest w → FitWidest (widened w a b)
 unfolding widened
-widened-fit w a b h k =
-    record { delta = larger-fit (w .delta) (sizeOf (minus b a)) (h .delta) (size-fit (minus b a) (minus-fit b a)); mag = larger-fit (w .mag) (sizeOf b) (h .mag) (size-fit b k) }
+widened-fit w a b h =
+    record { delta = larger-fit (w .delta) (sizeOf (minus b a)) (h .delta) (double-size (minus b a)); mag = larger-fit (w .mag) (sizeOf b) (h .mag) (double-size b) }
 
 -- ---- rows of nine
 pub record Row (l : List Triple) : Type 0 where
@@ -173,6 +157,6 @@ pass-fit h p a k =
       v = nine-row (point-fit _ _ _ _ .v) (point-fit _ _ _ _ .v) (point-fit _ _ _ _ .v) (point-fit _ _ _ _ .v) (k .v .fit 4) (point-fit _ _ _ _ .v) (point-fit _ _ _ _ .v) (point-fit _ _ _ _ .v) (point-fit _ _ _ _ .v);
     }
 
-pub calm-fit : (a : List Triple) → Row a → FitWidest (calmAt a)
+pub calm-fit : (a : List Triple) → FitWidest (calmAt a)
 unfolding calmAt tiny
-calm-fit a h = widened-fit (record { delta = nought; mag = tiny }) (at a 4) (at a 4) (record { delta = nought-fits; mag = round-fits binary64 false 1 _ }) (h .fit 4)
+calm-fit a = widened-fit (record { delta = nought; mag = tiny }) (at a 4) (at a 4) (record { delta = nought-fits; mag = round-fits binary64 false 1 _ })

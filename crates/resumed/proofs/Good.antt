@@ -12,7 +12,7 @@ use Rattle.run.specs.declared.Trial.{Trial}
 use Rattle.run.specs.declared.Body.{Body}
 use Rattle.run.specs.declared.waiting.Stage.{Stage}
 use Rattle.run.specs.declared.waiting.Stage.the-variants.{First, Second, Third, Fourth}
-use Rattle.run.specs.Formulas.{startTrack, trackOn}
+use Rattle.run.specs.Tracks.{startTrack, trackOn}
 use Rattle.run.specs.Moves.{freshBody, surveyed, withSlope, kept, endOf, movedOn, movedBack, passBegun, renewed, passMade, launched, predicted, tried, committed}
 use Rattle.resumed.proofs.Fitting.{F, Fit, FitState, FitSums, FitWidest, FitPlaces, Row, nought-fits, zeros-fit, end-fit, predicted-fit, fixed-fit, on-fit, last-fit, time-fit, widened-fit, row-set, zeros-row, slide-row, placed-fit, pass-fit, calm-fit}
 
@@ -75,11 +75,11 @@ module _ (b : Body) (g : Good b) where
 
   pub begun-good : Good (passBegun b)
   unfolding passBegun
-  begun-good = record { plan = g .plan; places = pass-fit _ _ _ (g .places); a = g .a; slopes = g .slopes; widest = calm-fit _ (g .a); track = g .track; trial = g .trial }
+  begun-good = record { plan = g .plan; places = pass-fit _ _ _ (g .places); a = g .a; slopes = g .slopes; widest = calm-fit _; track = g .track; trial = g .trial }
 
   pub renewed-good : (i : ℕ) (x : Triple) → Fit x → Good (renewed i b x)
   unfolding renewed
-  renewed-good i x h = record { plan = g .plan; places = g .places; a = row-set _ i x (g .a) h; slopes = g .slopes; widest = widened-fit _ _ _ (g .widest) h; track = g .track; trial = g .trial }
+  renewed-good i x h = record { plan = g .plan; places = g .places; a = row-set _ i x (g .a) h; slopes = g .slopes; widest = widened-fit _ _ _ (g .widest); track = g .track; trial = g .trial }
 
   pub made-good : Good (passMade b)
   unfolding passMade

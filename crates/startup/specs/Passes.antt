@@ -1,12 +1,12 @@
 -- 01, "Startup", 2 to 4: what a pass makes of the points, and when the passes stop.
-use Prim.Native.Nat.{ℕ, zero, suc, _+_, _-_, _^_}
-use mathlib.Core.Bool.{Bool, false}
+use Prim.Native.Nat.{ℕ, zero, suc, _+_, _-_}
+use mathlib.Core.Bool.{Bool}
 use mathlib.Core.List.{List, [], _∷_}
-use lib.Ieee.{Float, binary64, round, div, lt}
+use lib.Ieee.{Float, binary64, div, lt}
 use Rattle.triple.specs.declared.Triple.{Triple}
 use Rattle.triple.specs.declared.State.{State}
 use Rattle.triple.specs.Arithmetic.{nought, minus}
-use Rattle.triple.specs.Size.{largerOf, sizeOf}
+use Rattle.triple.specs.Size.{largerOf, sizeOf, tiny}
 use Rattle.triple.specs.Nine.{at}
 use Rattle.sums.specs.declared.Sums.{Sums}
 use Rattle.sums.specs.Sums.{epochSums, onSums, backSums, pointOf}
@@ -51,10 +51,6 @@ passPlaces h p a =
 -- after the startup: "s and S are worked out again from row 4 and walked from 4 to 8, S before s"
 unfoldable pub lastSums : Float → Places → List Triple → Sums
 lastSums h p a = sumsOn 4 (epochSums h (stateAt p 4) a) a
-
--- the double nearest 1e-30
-unfoldable pub tiny : Float
-tiny = round binary64 false 1 (10 ^ 30)
 
 -- "the largest size of change (from 0) and of a (from 1e-30), each kept by "greater than", so a NaN is passed over"
 unfoldable pub widened : Widest → Triple → Triple → Widest

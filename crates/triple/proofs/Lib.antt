@@ -1,3 +1,5 @@
 pub mod Tests
 pub mod Finite
-pub mod Doubles
+pub mod Zeros
+pub mod Signs
+pub mod Sizes

@@ -1,5 +1,6 @@
 pub mod Arithmetic
 pub mod Size
+pub mod Sizes
 pub mod Finite
 pub mod Nine
 pub mod Sampled

@@ -3,7 +3,7 @@
 // Operations go component by component, each product and each sum rounded once (01, "What is carried over").
 ghost use mathlib.Core.Path.{_≡_};
 ghost use Rattle.triple.specs.Arithmetic.{zeros, plus, minus, times, over};
-ghost use Rattle.triple.specs.Size.{absolute, largerOf, sizeOf};
+ghost use Rattle.triple.specs.Size.{absolute, largerOf, meanSquare, sizeOf};
 ghost use Rattle.triple.specs.Finite.{isFinite};
 
 pub mod nine;
@@ -92,23 +92,18 @@ impl Triple {
         }
     }
 
-    // NaN if a component is NaN, else the largest absolute value.
+    // The mean of the squares, each operation rounded once: what the size is the root of.
+    pub fn mean_square(self) -> f64
+        ensures { λ r. ⌜ r ≡ meanSquare self ⌝ }
+    {
+        (self.x * self.x + self.y * self.y + self.z * self.z) / 3.0
+    }
+
+    // The root of the mean square: NaN where a component is, infinite where a square overflows.
     pub fn size(self) -> f64
         ensures { λ r. ⌜ r ≡ sizeOf self ⌝ }
     {
-        let x = self.x;
-        let y = self.y;
-        let z = self.z;
-        if x != x {
-            return x;
-        }
-        if y != y {
-            return y;
-        }
-        if z != z {
-            return z;
-        }
-        larger_of(larger_of(abs(x), abs(y)), abs(z))
+        root::root(self.mean_square())
     }
 }
 

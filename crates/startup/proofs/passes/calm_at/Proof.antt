@@ -1,7 +1,8 @@
 -- `passes::calm_at` is `calmAt`.
 use lib.Ieee.{ofBits, round}
 use borrow.Author.Needs.{needs}
-use Rattle.startup.specs.Passes.{tiny, calmAt}
+use Rattle.triple.specs.Size.{tiny}
+use Rattle.startup.specs.Passes.{calmAt}
 use Rattle.startup.proofs.passes.calm_at.Statement.{statement}
 use Rattle.startup.proofs.passes.calm_at.Tie as tie
 
