@@ -9,7 +9,7 @@ use lib.Dec.{T, ltb, ltb→lt, nltb→le}
 use lib.Ieee.{Float, binary64, add}
 use borrow.Author.Tests.{le-ltb}
 use Rattle.plan.specs.declared.Plan.{Plan}
-use Rattle.run.specs.Formulas.{isTail}
+use Rattle.conditions.specs.Conditions.{isTail}
 use Rattle.whole.proofs.Along.{Along, move-along}
 use Rattle.counting.specs.Clockwork.{Fate, arrives, tails, runs-out, fateFrom, fateOf}
 use Rattle.counting.specs.Counting.{stepsFor, Least}

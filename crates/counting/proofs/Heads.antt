@@ -10,7 +10,7 @@ use Rattle.triple.specs.declared.Sample.{Sample}
 use Rattle.startup.specs.Points.{timeAt}
 use Rattle.plan.specs.declared.Plan.{Plan}
 use Rattle.plan.specs.Limits.{wantsSamples}
-use Rattle.run.specs.Formulas.{isDue, isTail}
+use Rattle.conditions.specs.Conditions.{isDue, isTail}
 use Rattle.rules.specs.Rules.{Course, stores}
 use Rattle.rules.specs.Asked.{clock}
 use Rattle.counting.specs.Paths.{Claims, Each, Always}

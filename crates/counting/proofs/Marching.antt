@@ -18,7 +18,8 @@ use Rattle.startup.specs.Points.{timeAt}
 use Rattle.plan.specs.declared.Plan.{Plan}
 use Rattle.plan.specs.Limits.{wantsSamples}
 use Rattle.run.specs.declared.Track.{Track}
-use Rattle.run.specs.Formulas.{leftAt, isDue, isTail, isAtRest, startTrack, trackOn, tailFrom}
+use Rattle.conditions.specs.Conditions.{leftAt, isDue, isTail, isAtRest}
+use Rattle.run.specs.Tracks.{startTrack, trackOn, tailFrom}
 use Rattle.run.specs.Samples.{gridSample, startSamples, stepSample, lastSample}
 use Rattle.rules.specs.Rules.{Course, stores, ends, exceeds, sampled, tail, correct, step, march, fly}
 use Rattle.rules.specs.Asked.{clock}

@@ -4,16 +4,17 @@ use Prim.Native.Nat.{_^_}
 use mathlib.Core.Bool.{true, false}
 use mathlib.Core.List.{List}
 use lib.Ieee.{Float, binary64, div, le}
+use Rattle.double.proofs.Signs.{Plain, plain-round, plain-div, not-below, not-above}
 use Rattle.triple.specs.declared.Triple.{Triple}
 use Rattle.triple.specs.declared.State.{State}
 use Rattle.triple.specs.Arithmetic.{nought, minus}
-use Rattle.triple.specs.Size.{sizeOf}
+use Rattle.triple.specs.Size.{sizeOf, tiny}
 use Rattle.triple.specs.Nine.{at}
+use Rattle.triple.proofs.Signs.{plain-larger, plain-size}
 use Rattle.startup.specs.declared.Widest.{Widest}
-use Rattle.startup.specs.Passes.{tiny, widened, calmAt, isSettled}
-use Rattle.run.specs.Formulas.{isAtRest}
-use Rattle.run.proofs.Resting.{rests-not}
-use Rattle.whole.proofs.Signs.{Plain, plain-round, plain-larger, plain-div, plain-size, not-below, not-above}
+use Rattle.startup.specs.Passes.{widened, calmAt, isSettled}
+use Rattle.conditions.specs.Conditions.{isAtRest}
+use Rattle.conditions.proofs.Resting.{rests-not}
 
 -- ---- the passes do not stop
 pub record PlainWidest (w : Widest) : Type 0 where

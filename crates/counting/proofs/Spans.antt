@@ -13,7 +13,7 @@ use Rattle.startup.specs.Points.{offset, timeAt}
 use Rattle.plan.specs.declared.Plan.{Plan}
 use Rattle.plan.specs.Plan.{directionOf, isTooNear}
 use Rattle.triple.proofs.Finite.{has-value}
-use Rattle.run.specs.Formulas.{leftAt, isDue, isTail}
+use Rattle.conditions.specs.Conditions.{leftAt, isDue, isTail}
 use Rattle.rules.specs.Asked.{clock}
 use Rattle.whole.proofs.Exact.{Is, move, sub-whole, lt-whole, nought-whole}
 use Rattle.whole.proofs.Integers.{whole-ofInt}

@@ -22,7 +22,7 @@ use Rattle.plan.specs.Limits.{areWithinLimits, wantsSamples}
 use Rattle.plan.specs.Plan.{directionOf, planOf, isTooNear}
 use Rattle.plan.specs.Lawful.{isDated, isLawful}
 use Rattle.plan.specs.Verdict.{faultOf, verdictOn}
-use Rattle.run.specs.Formulas.{leftAt, isDue, isTail}
+use Rattle.conditions.specs.Conditions.{leftAt, isDue, isTail}
 use Rattle.run.proofs.Counts.{both}
 use Rattle.rules.specs.Rules.{integrate}
 use Rattle.rules.specs.Walk.{Stop, beginBy}

@@ -13,7 +13,7 @@ use Rattle.plan.specs.declared.Plan.{Plan}
 use Rattle.run.specs.declared.Count.{Count}
 use Rattle.run.specs.declared.Track.{Track}
 use Rattle.run.specs.declared.Run.{Run}
-use Rattle.run.specs.Formulas.{trackOn, stepPoint}
+use Rattle.run.specs.Tracks.{trackOn, stepPoint}
 use Rattle.run.specs.Questions.{questionAt, endPoint}
 use Rattle.run.specs.Moves.{tried, committed, predicted}
 use Rattle.run.specs.Sound.{isOpenStep}

@@ -15,7 +15,7 @@ use Rattle.plan.specs.Limits.{wantsSamples}
 use Rattle.run.specs.declared.Count.{Count}
 use Rattle.run.specs.declared.Body.{Body}
 use Rattle.run.specs.declared.waiting.Waiting.the-variants.{Step}
-use Rattle.run.specs.Formulas.{isDue, isTail, isAtRest}
+use Rattle.conditions.specs.Conditions.{isDue, isTail, isAtRest}
 use Rattle.run.specs.Moves.{tried, committed, predicted}
 use Rattle.run.specs.Samples.{hasRoom, hasPlace, putAll, stepSample, keptSample}
 use Rattle.run.proofs.Counts.{both}

@@ -15,7 +15,7 @@ use Rattle.run.specs.declared.Count.{Count}
 use Rattle.run.specs.declared.Track.{Track}
 use Rattle.run.specs.declared.Trial.{Trial}
 use Rattle.run.specs.declared.waiting.Waiting.the-variants.{Step}
-use Rattle.run.specs.Formulas.{isDue, isTail, isAtRest}
+use Rattle.conditions.specs.Conditions.{isDue, isTail, isAtRest}
 use Rattle.run.specs.Waiting.{markAt}
 use Rattle.run.specs.Samples.{hasPlace}
 use Rattle.run.specs.Sound.{isOpenStep}

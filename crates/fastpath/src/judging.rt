@@ -12,7 +12,6 @@ use run::Count;
 use run::Mark;
 use run::Track;
 use run::Trial;
-use run::formulas;
 use run::samples;
 use sums::Sums;
 use triple::State;
@@ -38,7 +37,7 @@ pub fn reach(n: u8, plan: Plan, sums: Sums, trial: Trial, a: Triple) -> Reached
         };
     }
     let after = sums::corrected(plan.h, sums, trial.fixed, a);
-    let made = formulas::is_at_rest(plan.settings.corrector_tol, before, after);
+    let made = conditions::is_at_rest(plan.settings.corrector_tol, before, after);
     Reached { made, state: after }
 }
 
@@ -50,13 +49,13 @@ fn is_followed(plan: Plan, t: f64, n: u64, room: usize) -> bool
     if !samples::has_place(wanted, n, room) {
         return false;
     }
-    if !formulas::is_due(plan, t) {
+    if !conditions::is_due(plan, t) {
         return false;
     }
     if n >= plan.settings.max_steps {
         return false;
     }
-    !formulas::is_tail(plan, t)
+    !conditions::is_tail(plan, t)
 }
 
 pub fn next_count(c: Count) -> Count

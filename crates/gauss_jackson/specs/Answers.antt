@@ -31,7 +31,7 @@ use Rattle.run.specs.declared.waiting.Stage.the-variants.{First}
 use Rattle.run.specs.declared.waiting.Waiting.{Waiting}
 use Rattle.run.specs.declared.waiting.Waiting.the-variants.{Epoch, Forward, Backward, Survey, Pass, Step, Tail, TailSample, Ended, Unknown}
 use Rattle.run.specs.Limits.{numbering}
-use Rattle.run.specs.Formulas.{isDue, isTail, isAtRest}
+use Rattle.conditions.specs.Conditions.{isDue, isTail, isAtRest}
 use Rattle.run.specs.Waiting.{isLast, stageAfter, markAt, waitsAt, nextPoint}
 use Rattle.run.specs.Questions.{questionAt}
 use Rattle.run.specs.Moves.{freshBody, surveyed, kept, movedOn, movedBack, passBegun, renewed, passMade, launched, predicted, tried, committed, endOfTail}

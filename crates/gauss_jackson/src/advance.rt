@@ -3,7 +3,7 @@
 ghost use mathlib.Core.Path.{_≡_};
 ghost use Prim.Native.Nat.{_<_};
 ghost use Rattle.run.specs.Limits.{ample};
-ghost use Rattle.run.specs.Formulas.{trackOn};
+ghost use Rattle.run.specs.Tracks.{trackOn};
 ghost use Rattle.run.specs.Waiting.{nextPoint};
 ghost use Rattle.run.specs.Moves.{movedOn, movedBack, passMade, committed};
 use plan::Plan;

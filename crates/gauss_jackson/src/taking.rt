@@ -15,7 +15,6 @@ use plan::limits;
 use refusals::Refusal;
 use run::Body;
 use run::Count;
-use run::formulas;
 use run::moves;
 use run::samples;
 use run::waiting;
@@ -29,13 +28,13 @@ fn onward(count: Count, b: Body) -> Answered
     ensures { λ x. ⌜ x ≡ onward count b ⌝ }
 {
     let track = b.track;
-    if !formulas::is_due(b.plan, track.t) {
+    if !conditions::is_due(b.plan, track.t) {
         return outcomes::end(outcomes::solution_of(track.t, track.state, count, track.steps, b));
     }
     if track.steps >= b.plan.settings.max_steps {
         return outcomes::end(Outcome::Refused(Refusal::MaxStepsExceeded));
     }
-    if formulas::is_tail(b.plan, track.t) {
+    if conditions::is_tail(b.plan, track.t) {
         return outcomes::ask(Waiting::Tail(Stage::First), count, b);
     }
     outcomes::ask(Waiting::Step(0), count, moves::predict(b))
@@ -165,7 +164,7 @@ fn take_step(n: u8, count: Count, b: Body, a: Triple, out: &mut [f64]) -> Answer
         return end_step(count, advance::commit(b, before, a), out);
     }
     let after = sums::corrected(b.plan.h, b.track.sums, b.trial.fixed, a);
-    if formulas::is_at_rest(b.plan.settings.corrector_tol, before, after) {
+    if conditions::is_at_rest(b.plan.settings.corrector_tol, before, after) {
         return end_step(count, advance::commit(b, after, a), out);
     }
     outcomes::ask(Waiting::Step(n + 1), count, moves::try_state(b, after))

@@ -25,7 +25,7 @@ use Rattle.run.specs.declared.waiting.Stage.{Stage}
 use Rattle.run.specs.declared.waiting.Stage.the-variants.{First}
 use Rattle.run.specs.declared.waiting.Waiting.{Waiting}
 use Rattle.run.specs.declared.waiting.Waiting.the-variants.{Epoch, Forward, Backward, Survey, Pass, Step, Tail, TailSample, Ended, Unknown}
-use Rattle.run.specs.Formulas.{isDue, isTail, isAtRest}
+use Rattle.conditions.specs.Conditions.{isDue, isTail, isAtRest}
 use Rattle.run.specs.Waiting.{waitsAt, isLast, stageAfter, nextPoint}
 use Rattle.run.specs.Moves.{surveyed, kept, endOf, movedOn, movedBack, passBegun, renewed, passMade, launched, predicted, tried, committed, endOfTail}
 use Rattle.run.specs.Samples.{hasRoom}

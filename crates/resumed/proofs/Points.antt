@@ -15,7 +15,7 @@ use Rattle.plan.specs.declared.Plan.{Plan}
 use Rattle.run.specs.declared.Body.{Body}
 use Rattle.run.specs.declared.waiting.Waiting.{Waiting}
 use Rattle.run.specs.declared.waiting.Waiting.the-variants.{Survey, Pass}
-use Rattle.run.specs.Formulas.{startTrack}
+use Rattle.run.specs.Tracks.{startTrack}
 use Rattle.run.specs.Questions.{questionAt}
 use Rattle.run.specs.Moves.{surveyed, renewed}
 use Rattle.run.specs.Samples.{gridSample, startSamples}

@@ -20,7 +20,8 @@ use Rattle.run.specs.declared.waiting.Stage.{Stage}
 use Rattle.run.specs.declared.waiting.Stage.the-variants.{First, Second, Third, Fourth}
 use Rattle.run.specs.declared.waiting.Waiting.{Waiting}
 use Rattle.run.specs.declared.waiting.Waiting.the-variants.{Epoch, Forward, Backward, Survey, Pass, Step, Tail, TailSample, Ended, Unknown}
-use Rattle.run.specs.Formulas.{isAtRest, trackOn, stepPoint, tailFrom, finalPoint}
+use Rattle.conditions.specs.Conditions.{isAtRest}
+use Rattle.run.specs.Tracks.{trackOn, stepPoint, tailFrom, finalPoint}
 use Rattle.run.specs.Waiting.{waitsAt}
 use Rattle.run.specs.Questions.{stageQuestion, gridPoint, epochPoint, endPoint, lastPoint, questionAt}
 use Rattle.run.specs.Moves.{surveyed, withSlope, kept, endOf, movedOn, movedBack, renewed, committed, endOfTail}

@@ -21,7 +21,8 @@ use Rattle.startup.specs.Passes.{passPlaces, widened, calmAt, isSettled}
 use Rattle.plan.specs.declared.Plan.{Plan}
 use Rattle.plan.specs.Limits.{wantsSamples}
 use Rattle.run.specs.declared.Track.{Track}
-use Rattle.run.specs.Formulas.{leftAt, isDue, isTail, isAtRest, startTrack, trackOn, stepPoint, tailFrom, finalPoint}
+use Rattle.conditions.specs.Conditions.{leftAt, isDue, isTail, isAtRest}
+use Rattle.run.specs.Tracks.{startTrack, trackOn, stepPoint, tailFrom, finalPoint}
 use Rattle.run.specs.Samples.{startSamples, stepSample, lastSample}
 use Rattle.rules.specs.Rules.{Course, asks, stores, ends, exceeds, rk4, forward, backward, others, survey, renew, passes, sampled, tail, correct, step, march, fly, integrate}
 use Rattle.rules.specs.Asked.{clock, Listed, at-start, at-point, half-ahead, ahead, half-back, back, on-step, on-tail, half-tail, past-tail, at-end, due, AsListed, AsksAsListed}

@@ -22,7 +22,8 @@ use Rattle.run.specs.declared.waiting.Stage.the-variants.{First}
 use Rattle.run.specs.declared.waiting.Waiting.{Waiting}
 use Rattle.run.specs.declared.waiting.Waiting.the-variants.{Pass, Step, Tail}
 use Rattle.run.specs.Limits.{numbering}
-use Rattle.run.specs.Formulas.{isDue, isTail, startTrack}
+use Rattle.conditions.specs.Conditions.{isDue, isTail}
+use Rattle.run.specs.Tracks.{startTrack}
 use Rattle.run.specs.Waiting.{stageFrom, waitingAt, waitsAt}
 use Rattle.run.specs.Moves.{freshBody, passBegun, passMade, launched, predicted}
 use Rattle.run.specs.Samples.{hasRoom, putAll, startSamples, stepSample}

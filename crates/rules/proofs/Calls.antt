@@ -21,7 +21,8 @@ use Rattle.run.specs.declared.waiting.Stage.the-variants.{First, Second, Third,
 use Rattle.run.specs.declared.waiting.Waiting.{Waiting}
 use Rattle.run.specs.declared.waiting.Waiting.the-variants.{Epoch, Forward, Backward, Survey, Pass, Step, Tail, TailSample, Ended, Unknown}
 use Rattle.run.specs.Limits.{numbering}
-use Rattle.run.specs.Formulas.{isAtRest, stepPoint, finalPoint}
+use Rattle.conditions.specs.Conditions.{isAtRest}
+use Rattle.run.specs.Tracks.{stepPoint, finalPoint}
 use Rattle.run.specs.Waiting.{isLast, stageAfter, waitsAt, nextPoint}
 use Rattle.run.specs.Questions.{endPoint, lastPoint, questionAt}
 use Rattle.run.specs.Moves.{surveyed, kept, movedOn, movedBack, renewed, tried, committed, endOfTail}

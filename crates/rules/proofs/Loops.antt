@@ -23,7 +23,8 @@ use Rattle.run.specs.declared.Track.{Track}
 use Rattle.run.specs.declared.Body.{Body}
 use Rattle.run.specs.declared.waiting.Stage.the-variants.{First}
 use Rattle.run.specs.declared.waiting.Waiting.the-variants.{Forward, Backward, Survey, Pass, Step, Tail}
-use Rattle.run.specs.Formulas.{isDue, isTail, isAtRest, trackOn, stepPoint}
+use Rattle.conditions.specs.Conditions.{isDue, isTail, isAtRest}
+use Rattle.run.specs.Tracks.{trackOn, stepPoint}
 use Rattle.run.specs.Waiting.{nextPoint}
 use Rattle.run.specs.Questions.{stageQuestion, gridPoint, endPoint, questionAt}
 use Rattle.run.specs.Moves.{withSlope, kept, endOf, movedOn, movedBack, predicted, committed, endOfTail, renewed, surveyed}

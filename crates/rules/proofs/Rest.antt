@@ -15,7 +15,7 @@ use Rattle.run.specs.declared.waiting.Stage.{Stage}
 use Rattle.run.specs.declared.waiting.Stage.the-variants.{First, Second, Third, Fourth}
 use Rattle.run.specs.declared.waiting.Waiting.{Waiting}
 use Rattle.run.specs.declared.waiting.Waiting.the-variants.{Epoch, Forward, Backward, Survey, Pass, Step, Tail, TailSample, Ended, Unknown}
-use Rattle.run.specs.Formulas.{finalPoint}
+use Rattle.run.specs.Tracks.{finalPoint}
 use Rattle.run.specs.Waiting.{waitsAt}
 use Rattle.run.specs.Questions.{questionAt}
 use Rattle.run.specs.Moves.{surveyed, kept, movedOn, movedBack, renewed, committed, endOfTail}

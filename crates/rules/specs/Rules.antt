@@ -21,7 +21,8 @@ use Rattle.startup.specs.Passes.{passPlaces, widened, calmAt, isSettled}
 use Rattle.plan.specs.declared.Plan.{Plan}
 use Rattle.plan.specs.Limits.{wantsSamples}
 use Rattle.run.specs.declared.Track.{Track}
-use Rattle.run.specs.Formulas.{leftAt, isDue, isTail, isAtRest, startTrack, trackOn, stepPoint, tailFrom, finalPoint}
+use Rattle.conditions.specs.Conditions.{leftAt, isDue, isTail, isAtRest}
+use Rattle.run.specs.Tracks.{startTrack, trackOn, stepPoint, tailFrom, finalPoint}
 use Rattle.run.specs.Samples.{startSamples, stepSample, lastSample}
 
 pub data Course : Type 0 where

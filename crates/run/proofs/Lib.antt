@@ -2,5 +2,4 @@ pub mod Decoding
 pub mod Counts
 pub mod Moving
 pub mod Placing
-pub mod Resting
 pub mod OpenStep

@@ -16,7 +16,7 @@ use Rattle.run.specs.declared.waiting.Stage.the-variants.{First, Second,
 use Rattle.run.specs.declared.waiting.Waiting.the-variants.{Epoch, Forward, Backward, Survey, Pass, Step, Tail, TailSample}
 use Rattle.run.specs.Waiting.{stageNumber, isLast, stageAfter, nextPoint}
 use Rattle.run.specs.Sound.{rankOf}
-use Rattle.run.specs.Formulas.{startTrack, trackOn}
+use Rattle.run.specs.Tracks.{startTrack, trackOn}
 use Rattle.run.specs.Moves.{surveyed, kept, movedOn, movedBack, passBegun, renewed, passMade, launched, predicted, tried, committed}
 use Rattle.run.proofs.Counts.{SteppingBody, Point, Counts}
 

@@ -1,5 +1,5 @@
 pub mod Limits
-pub mod Formulas
+pub mod Tracks
 pub mod Waiting
 pub mod Questions
 pub mod Moves

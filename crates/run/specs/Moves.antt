@@ -21,7 +21,8 @@ use Rattle.run.specs.declared.Body.{Body}
 use Rattle.run.specs.declared.Slopes.{Slopes}
 use Rattle.run.specs.declared.waiting.Stage.{Stage}
 use Rattle.run.specs.declared.waiting.Stage.the-variants.{First, Second, Third, Fourth}
-use Rattle.run.specs.Formulas.{leftAt, startTrack, trackOn, tailFrom}
+use Rattle.conditions.specs.Conditions.{leftAt}
+use Rattle.run.specs.Tracks.{startTrack, trackOn, tailFrom}
 use Rattle.run.specs.Questions.{gridPoint}
 
 -- ---- a body with one part changed: there is no record update, so each is written once

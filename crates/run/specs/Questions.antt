@@ -12,7 +12,8 @@ use Rattle.run.specs.declared.waiting.Stage.{Stage}
 use Rattle.run.specs.declared.waiting.Stage.the-variants.{First, Second, Third, Fourth}
 use Rattle.run.specs.declared.waiting.Waiting.{Waiting}
 use Rattle.run.specs.declared.waiting.Waiting.the-variants.{Epoch, Forward, Backward, Survey, Pass, Step, Tail, TailSample, Ended, Unknown}
-use Rattle.run.specs.Formulas.{leftAt, stepPoint, tailFrom, finalPoint}
+use Rattle.conditions.specs.Conditions.{leftAt}
+use Rattle.run.specs.Tracks.{stepPoint, tailFrom, finalPoint}
 
 -- the four questions of an RK4 step from p over h
 unfoldable pub stageQuestion : Stage → Point → Float → Slopes → Point

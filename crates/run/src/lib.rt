@@ -9,7 +9,6 @@ use sums::Sums;
 use triple::State;
 use triple::Triple;
 
-pub mod formulas;
 pub mod moves;
 pub mod questions;
 pub mod samples;

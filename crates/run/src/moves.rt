@@ -6,7 +6,7 @@ use crate::Body;
 use crate::Slopes;
 use crate::Track;
 use crate::Trial;
-use crate::formulas;
+use crate::questions;
 use crate::waiting::Stage;
 use plan::Plan;
 use startup::Widest;
@@ -174,6 +174,6 @@ pub fn try_state(b: Body, x: State) -> Body
 pub fn end_of_tail(b: Body, a: Triple) -> State
     ensures { λ x. ⌜ x ≡ endOfTail b a ⌝ }
 {
-    let rem = formulas::left_at(b.plan, b.track.t);
-    end_of(formulas::tail_from(b.track), rem, b.slopes, a)
+    let rem = conditions::left_at(b.plan, b.track.t);
+    end_of(questions::tail_from(b.track), rem, b.slopes, a)
 }

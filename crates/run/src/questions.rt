@@ -1,10 +1,11 @@
 // SPDX-License-Identifier: MIT OR Apache-2.0
 // What each waiting point asks.
 ghost use mathlib.Core.Path.{_≡_};
+ghost use Rattle.run.specs.Tracks.{tailFrom};
 ghost use Rattle.run.specs.Questions.{stageQuestion, gridPoint, epochPoint, endPoint, lastPoint, noPoint, questionAt};
 use crate::Body;
 use crate::Slopes;
-use crate::formulas;
+use crate::Track;
 use crate::waiting::Stage;
 use crate::waiting::Waiting;
 use triple::Point;
@@ -52,6 +53,15 @@ fn end_point(b: Body) -> Point
     }
 }
 
+// Where the tail starts: the newest point.
+pub fn tail_from(track: Track) -> Point
+    ensures { λ p. ⌜ p ≡ tailFrom track ⌝ }
+{
+    let r = track.state.r;
+    let v = track.state.v;
+    Point { t: track.t, r, v }
+}
+
 // The end of the tail, at tf itself.
 fn last_point(b: Body) -> Point
     ensures { λ q. ⌜ q ≡ lastPoint b ⌝ }
@@ -84,8 +94,8 @@ pub fn question_at(w: Waiting, b: Body) -> Point
         Waiting::Pass(i) => grid_point(b, i),
         Waiting::Step(_) => end_point(b),
         Waiting::Tail(s) => {
-            let from = formulas::tail_from(b.track);
-            let rem = formulas::left_at(b.plan, b.track.t);
+            let from = tail_from(b.track);
+            let rem = conditions::left_at(b.plan, b.track.t);
             stage_question(s, from, rem, b.slopes)
         }
         Waiting::TailSample => last_point(b),

@@ -1,6 +1,6 @@
 -- `counted::track_on` is `trackOn`.
 use borrow.Author.Needs.{needs}
-use Rattle.run.specs.Formulas.{trackOn}
+use Rattle.run.specs.Tracks.{trackOn}
 use Rattle.gauss_jackson.proofs.advance.track_on.Statement.{statement}
 use Rattle.gauss_jackson.proofs.advance.track_on.Tie as tie
 

@@ -1,7 +1,7 @@
 -- `moves::launch` is `launched`.
 use lib.Ieee.{ofBits}
 use borrow.Author.Needs.{needs}
-use Rattle.run.specs.Formulas.{startTrack}
+use Rattle.run.specs.Tracks.{startTrack}
 use Rattle.run.specs.Moves.{launched}
 use Rattle.run.proofs.moves.launch.Statement.{statement}
 use Rattle.run.proofs.moves.launch.Tie as tie

@@ -1,6 +1,6 @@
 -- `questions::end_point` is `endPoint`.
 use mathlib.Core.Path.{refl}
-use Rattle.run.specs.Formulas.{stepPoint}
+use Rattle.run.specs.Tracks.{stepPoint}
 use Rattle.run.specs.Questions.{endPoint}
 use Rattle.run.proofs.questions.end_point.Statement.{statement}
 use Rattle.run.proofs.questions.end_point.Tie as tie

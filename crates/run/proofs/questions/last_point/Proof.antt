@@ -1,6 +1,6 @@
 -- `questions::last_point` is `lastPoint`.
 use mathlib.Core.Path.{refl}
-use Rattle.run.specs.Formulas.{finalPoint}
+use Rattle.run.specs.Tracks.{finalPoint}
 use Rattle.run.specs.Questions.{lastPoint}
 use Rattle.run.proofs.questions.last_point.Statement.{statement}
 use Rattle.run.proofs.questions.last_point.Tie as tie

@@ -1,10 +1,10 @@
 // SPDX-License-Identifier: MIT OR Apache-2.0
-// The tests that the steps of a run turn on.
+// The tests that the steps of a run turn on: whether one more is due, whether that is the tail, and whether a step's corrections have come to
+// rest.
 ghost use mathlib.Core.Path.{_≡_};
-ghost use Rattle.run.specs.Formulas.{leftAt, isDue, isTail, isStill, isAtRest, tailFrom};
-use crate::Track;
+ghost use Rattle.conditions.specs.Conditions.{leftAt, isDue, isTail, isStill, isAtRest};
+ghost use Rattle.conditions.specs.Usual.{isUsual};
 use plan::Plan;
-use triple::Point;
 use triple::State;
 use triple::Triple;
 
@@ -29,11 +29,37 @@ pub fn is_tail(p: Plan, t: f64) -> bool
     triple::abs(left_at(p, t)) - triple::abs(p.h) < -1.0e-12 * triple::abs(p.h)
 }
 
-// Whether a correction from `before` to `after` is below the tolerance, beside the new size.
+// Whether mean squares may tell by themselves what a quotient of sizes is beside the tolerance.
+fn is_usual(tol: f64, new: f64) -> bool
+    ensures { λ b. ⌜ b ≡ isUsual tol new ⌝ }
+{
+    if tol > 1.0e-60 {
+        if tol < 1.0 {
+            if new > 1.0e-45 {
+                return new < 1.0e150;
+            }
+        }
+    }
+    false
+}
+
+// Whether a correction from `before` to `after` is below the tolerance, beside the new size. Where the mean squares are not within a factor of
+// two of the tolerance's own square, they tell it, and no root is worked out.
 fn is_still(tol: f64, before: Triple, after: Triple) -> bool
     ensures { λ b. ⌜ b ≡ isStill tol before after ⌝ }
 {
-    after.minus(before).size() / (after.size() + 1.0e-30) < tol
+    let change = after.minus(before).mean_square();
+    let new = after.mean_square();
+    if is_usual(tol, new) {
+        let limit = new * tol * tol;
+        if change * 2.0 < limit {
+            return true;
+        }
+        if limit * 2.0 < change {
+            return false;
+        }
+    }
+    root::root(change) / (root::root(new) + 1.0e-30) < tol
 }
 
 // Whether the passes of a step stop: both position and velocity are still. Beside a tolerance that is not above zero nothing is, whatever
@@ -47,13 +73,4 @@ pub fn is_at_rest(tol: f64, before: State, after: State) -> bool
         }
     }
     false
-}
-
-// Where the tail starts: the newest point.
-pub fn tail_from(track: Track) -> Point
-    ensures { λ p. ⌜ p ≡ tailFrom track ⌝ }
-{
-    let r = track.state.r;
-    let v = track.state.v;
-    Point { t: track.t, r, v }
 }

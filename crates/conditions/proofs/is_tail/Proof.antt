@@ -1,9 +1,9 @@
--- `formulas::is_tail` is `isTail`.
+-- `is_tail` is `isTail`.
 use lib.Ieee.{ofBits, round, neg}
 use borrow.Author.Needs.{needs}
-use Rattle.run.specs.Formulas.{isTail}
-use Rattle.run.proofs.formulas.is_tail.Statement.{statement}
-use Rattle.run.proofs.formulas.is_tail.Tie as tie
+use Rattle.conditions.specs.Conditions.{isTail}
+use Rattle.conditions.proofs.is_tail.Statement.{statement}
+use Rattle.conditions.proofs.is_tail.Tie as tie
 
 returns : tie.Need-returns
 unfolding isTail ofBits round neg

@@ -1,9 +1,9 @@
--- `formulas::is_due` is `isDue`.
+-- `is_due` is `isDue`.
 use lib.Ieee.{ofBits}
 use borrow.Author.Needs.{needs}
-use Rattle.run.specs.Formulas.{isDue}
-use Rattle.run.proofs.formulas.is_due.Statement.{statement}
-use Rattle.run.proofs.formulas.is_due.Tie as tie
+use Rattle.conditions.specs.Conditions.{isDue}
+use Rattle.conditions.proofs.is_due.Statement.{statement}
+use Rattle.conditions.proofs.is_due.Tie as tie
 
 returns : tie.Need-returns
 unfolding isDue ofBits

@@ -2,10 +2,10 @@
 use mathlib.Core.Path.{sym, _∙_}
 use lib.Ieee.{ofBits}
 use borrow.Author.Needs.{needs}
-use Rattle.run.specs.Formulas.{isAtRest}
-use Rattle.run.proofs.Resting.{rests-not}
-use Rattle.run.proofs.formulas.is_at_rest.Statement.{statement}
-use Rattle.run.proofs.formulas.is_at_rest.Tie as tie
+use Rattle.conditions.specs.Conditions.{isAtRest}
+use Rattle.conditions.proofs.Resting.{rests-not}
+use Rattle.conditions.proofs.is_at_rest.Statement.{statement}
+use Rattle.conditions.proofs.is_at_rest.Tie as tie
 
 returns : tie.Need-returns
 unfolding isAtRest

@@ -1,0 +1,143 @@
+-- What `isUsual` says of a tolerance and a mean square, in units of 2 ^ -1074; and what the mean square times the tolerance, twice, and its root with 1e-30
+-- come to.
+use mathlib.Core.Path.{_≡_, refl, sym, _∙_, subst}
+use Prim.Native.Nat.{ℕ, _+_, _*_, _^_, _≤_, _<_}
+use native.Mathlib.Nat.{le-trans, le-of-eq, le-of-lt, lt-of-le-of-lt, mul-one, mul-le-mul, mul-le-mul-left, mul-le-mul-right, le-of-mul-le-mul-right, lt-of-mul-lt-mul-right, mul-pos, zero-lt-suc}
+use native.Mathlib.Omega.{arith}
+use mathlib.Core.Bool.{Bool, true, false, _&&_, false≢true}
+use lib.IntN.{pos}
+use lib.Dec.{lit≤, lit<}
+use lib.Pow.{pow-pos}
+use lib.Ieee.{Float, fin, binary64, round, add, mul, lt}
+use borrow.Author.Tests.{ltb-true}
+use Rattle.double.specs.Doubles.{Double}
+use Rattle.double.specs.Units.{unitsIn, NotNegative}
+use Rattle.double.proofs.Signs.{round-clear}
+use Rattle.double.proofs.Units.{Units, own-units, lt-units, below-tells, above-tells, between}
+use Rattle.double.proofs.Off.{Within, product, total}
+use Rattle.root.specs.Root.{rootOf}
+use Rattle.root.proofs.Nearest.{double-root}
+use Rattle.root.proofs.Squares.{About, root-about}
+use Rattle.triple.specs.Size.{tiny}
+use Rattle.plan.specs.Plan.{decimal}
+use Rattle.conditions.specs.Usual.{vast, isUsual}
+use Rattle.conditions.proofs.Chains.{sq-le}
+
+-- ---- the four tests
+pub record Usual (tol q : Float) : Type 0 where
+  pub tol-plus : NotNegative tol
+  pub tol-low : 2 ^ 874 ≤ unitsIn tol
+  pub tol-high : unitsIn tol < 2 ^ 1074
+  pub q-plus : NotNegative q
+  pub q-low : 2 ^ 924 ≤ unitsIn q
+  pub q-high : unitsIn q < 2 ^ 1574
+
+abbrev one : Float
+one = fin false 1 (pos 0)
+
+usual-at : (tol q : Float) → Double tol → Double q → lt (decimal 60) tol ≡ true → lt tol one ≡ true → lt (decimal 45) q ≡ true → lt q vast ≡ true → Usual tol q
+unfolding vast
+usual-at tol q F G a b c d =
+    let T = between (decimal 60) tol one (round-clear binary64 1 (10 ^ 60)) a b in
+    let Q = between (decimal 45) q vast (round-clear binary64 1 (10 ^ 45)) c d in
+    record {
+      tol-plus = T;
+      tol-low = least (2 ^ 874) (10 ^ 60) (unitsIn tol) (lit≤ tt) (below-tells 1 (10 ^ 60) tol (unitsIn tol) (lit< tt) F (own-units tol F T) a) (lit< tt);
+      tol-high = ltb-true (unitsIn tol) (2 ^ 1074) (sym (lt-units tol one (unitsIn tol) (2 ^ 1074) (own-units tol F T) (refl, refl)) ∙ b);
+      q-plus = Q;
+      q-low = least (2 ^ 924) (10 ^ 45) (unitsIn q) (lit≤ tt) (below-tells 1 (10 ^ 45) q (unitsIn q) (lit< tt) G (own-units q G Q) c) (lit< tt);
+      q-high = lt-of-le-of-lt (le-trans (le-of-eq (sym (mul-one (unitsIn q)))) (above-tells (10 ^ 150) 1 q (unitsIn q) (zero-lt-suc 0) G (own-units q G Q) d)) (lit< tt);
+    }
+  where
+    -- 1 / c at least, in units
+    least : (low c n : ℕ) → low * c ≤ 1 * 2 ^ 1074 → 1 * 2 ^ 1074 ≤ n * c → 0 < c → low ≤ n
+    least low c n h l p = le-of-mul-le-mul-right (le-trans h l) p
+
+pub usual : (tol q : Float) → Double tol → Double q → isUsual tol q ≡ true → Usual tol q
+unfolding isUsual
+usual tol q F G h =
+    let a = both (lt (decimal 60) tol) _ h in
+    let b = both (lt tol one) _ (a .1) in
+    let c = both (lt (decimal 45) q) (lt q vast) (b .1) in
+    usual-at tol q F G (a .0) (b .0) (c .0) (c .1)
+  where
+    both : (a b : Bool) → a && b ≡ true → (a ≡ true) × (b ≡ true)
+    both true b h = (refl, h)
+    both false b h = absurd (false≢true h)
+
+-- ---- q times tol, and times tol again
+pub record Limit (tol q : Float) : Type 0 where
+  pub W : ℕ
+  pub L : ℕ
+  pub are : Units (mul binary64 (mul binary64 q tol) tol) L
+  pub first : Within (W * 2 ^ 1074) (unitsIn q * unitsIn tol)
+  pub second : Within (L * 2 ^ 1074) (W * unitsIn tol)
+
+pub limit : (tol q : Float) → Double tol → Double q → Usual tol q → Limit tol q
+limit tol q F G U =
+    let t = unitsIn tol in
+    let Q = unitsIn q in
+    let T = own-units tol F (U .tol-plus) in
+    let w = product q tol Q t (own-units q G (U .q-plus)) T
+    (le-trans (lit≤ tt) (mul-le-mul (U .q-low) (U .tol-low))) (lt-of-le-of-lt (mul-le-mul (le-of-lt (U .q-high)) (le-of-lt (U .tol-high))) (lit< tt)) in
+    let W = w .units in
+    let low : 2 ^ 723 ≤ W = le-of-mul-le-mul-right (le-trans (lit≤ tt) (le-trans (mul-le-mul-left 64 (mul-le-mul (U .q-low) (U .tol-low))) (le-trans (w .within .low) (le-of-eq (turn 65 W (2 ^ 1074)))))) (mul-pos (zero-lt-suc 64) (pow-pos 1074)) in
+    let high : W < 2 ^ 1575 = lt-of-mul-lt-mul-right (63 * 2 ^ 1074) (lt-of-le-of-lt (le-trans (le-of-eq (sym (turn 63 W (2 ^ 1074)))) (le-trans (w .within .high) (mul-le-mul-left 64 (mul-le-mul (le-of-lt (U .q-high)) (le-of-lt (U .tol-high)))))) (lit< tt)) in
+    let l = product (mul binary64 q tol) tol W t (w .are) T
+    (le-trans (lit≤ tt) (mul-le-mul low (U .tol-low))) (lt-of-le-of-lt (mul-le-mul (le-of-lt high) (le-of-lt (U .tol-high))) (lit< tt)) in
+    record { W = W; L = l .units; are = l .are; first = w .within; second = l .within }
+  where
+    turn : (c w u : ℕ) → c * (w * u) ≡ w * (c * u)
+    turn c w u = omega arith
+
+-- ---- the root of q, and 1e-30
+abbrev thirtieth : ℕ
+thirtieth = 178405961588245 * 2 ^ 927
+
+tiny-units : Units tiny thirtieth
+unfolding tiny round
+tiny-units = (refl, refl)
+
+pub record Sized (q : Float) : Type 0 where
+  pub plus : NotNegative (rootOf q)
+  pub about : About (unitsIn (rootOf q)) (unitsIn q * 2 ^ 1074)
+  pub D : ℕ
+  pub are : Units (add binary64 (rootOf q) tiny) D
+  pub some : 0 < D
+  pub x : ℕ
+  pub within : Within D (unitsIn (rootOf q) + x)
+  pub little : 1024 * x ≤ unitsIn (rootOf q)
+
+pub sized : (tol q : Float) → Double q → Usual tol q → Sized q
+sized tol q G U =
+    let r = root-about q G (U .q-plus) in
+    let B = unitsIn (rootOf q) in
+    let low : 2 ^ 998 ≤ B = sq-le (2 ^ 998) B (by-17 (2 ^ 998 * 2 ^ 998) (B * B) (16 * (2 ^ 924 * 2 ^ 1074)) (lit≤ tt) (le-trans (mul-le-mul-left 16 (mul-le-mul-right (2 ^ 1074) (U .q-low))) (r .1 .low))) in
+    let high : B ≤ 2 ^ 1325 = sq-le B (2 ^ 1325) (by-16 (B * B) (unitsIn q * 2 ^ 1074) (2 ^ 1574 * 2 ^ 1074) (2 ^ 1325 * 2 ^ 1325) (r .1 .high) (mul-le-mul-right (2 ^ 1074) (le-of-lt (U .q-high))) (lit≤ tt)) in
+    let d = total (rootOf q) tiny B thirtieth (own-units (rootOf q) (double-root q G) (r .0)) tiny-units (more B thirtieth (le-trans (lit≤ tt) low)) (lt-of-le-of-lt (add-right B (2 ^ 1325) thirtieth high) (lit< tt)) in
+    let w : Within (d .units) (B + thirtieth) = subst (λ (z : ℕ). Within z (B + thirtieth)) (mul-one (d .units)) (d .within) in
+    record {
+      plus = r .0;
+      about = r .1;
+      D = d .units;
+      are = d .are;
+      some = positive (d .units) (B + thirtieth) (more B thirtieth (le-trans (lit≤ tt) low)) (w .low);
+      x = thirtieth;
+      within = w;
+      little = le-trans (lit≤ tt) low;
+    }
+  where
+    by-17 : (X Y n : ℕ) → 17 * X ≤ n → n ≤ 17 * Y → X ≤ Y
+    by-17 X Y n h k = omega arith
+
+    by-16 : (X n m Y : ℕ) → 16 * X ≤ 17 * n → n ≤ m → 2 * m ≤ Y → X ≤ Y
+    by-16 X n m Y h k l = omega arith
+
+    more : (B x : ℕ) → 32 ≤ B → 32 ≤ B + x
+    more B x h = omega arith
+
+    add-right : (B C x : ℕ) → B ≤ C → B + x ≤ C + x
+    add-right B C x h = omega arith
+
+    positive : (D y : ℕ) → 32 ≤ y → 64 * y ≤ 65 * D → 0 < D
+    positive D y h k = omega arith

@@ -1,0 +1,4 @@
+pub mod Chains
+pub mod Bounds
+pub mod Told
+pub mod Resting
