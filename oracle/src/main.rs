@@ -11,6 +11,7 @@
 mod case;
 mod cases;
 mod dates;
+mod doubles;
 mod examples;
 mod force;
 mod list;
