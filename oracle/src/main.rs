@@ -17,7 +17,9 @@ mod force;
 mod list;
 mod orbit;
 mod random;
+mod sizes;
 mod tables;
+mod tolerances;
 mod transcript;
 #[path = "../../tools/with_acceleration.rs"]
 mod with_acceleration;
