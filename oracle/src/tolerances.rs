@@ -6,9 +6,11 @@
 //! RK4's, 33 to 40 those of the eight other points, in the order in which each startup pass asks eight more; then a step asks once, and once for
 //! each correction.
 use crate::case::Case;
-use crate::doubles::next_up;
+use crate::doubles::{next_down, next_up};
 use crate::force::{Source, V3};
 use crate::gauss_jackson::GaussJackson8;
+use crate::random::Random;
+use std::f64::consts::{FRAC_1_SQRT_2, SQRT_2};
 
 struct Asked {
     t: f64,
@@ -141,4 +143,36 @@ impl Tolerance {
         };
         answers(quotient) != answers(next_up(quotient))
     }
+
+    /// Puts the tolerance at a quotient that the case meets or beside it, or, more rarely, up to four times larger or smaller; says whether it is
+    /// telling: within two doubles of it the number of answers changes. Nothing where no quotient is met.
+    fn sharpen(self, c: &mut Case, rng: &mut Random) -> Option<bool> {
+        let met = self.met(c);
+        if met.is_empty() {
+            return None;
+        }
+        let tried = [rng.pick(&met).value, rng.pick(&met).value];
+        let telling = tried.into_iter().find(|q| self.tells(c, *q));
+        let q = telling.unwrap_or(tried[1]);
+        let (is_beside, x) = match rng.below(10) {
+            0..=2 => (true, q),
+            3..=5 => (true, next_up(q)),
+            6 | 7 => (true, next_down(q)),
+            8 => (false, q * rng.pick(&[FRAC_1_SQRT_2, SQRT_2])),
+            _ => (false, q * rng.pick(&[0.25, 0.5, 1.0, 2.0]) * (1.0 + rng.unit().abs())),
+        };
+        self.put(c, x);
+        Some(is_beside && telling.is_some())
+    }
+}
+
+/// A case with one of its tolerances sharpened, or both, if it meets any quotient. Its name then ends in -t where the last one is telling, with the
+/// other in its place, else in -s.
+pub fn sharpened(mut c: Case, rng: &mut Random) -> Case {
+    let (order, both) = rng.pick(&[([Startup, Corrector], false), ([Corrector, Startup], false), ([Startup, Corrector], true)]);
+    let done = order.into_iter().filter_map(|which| which.sharpen(&mut c, rng)).take(1 + both as usize).last();
+    if let Some(telling) = done {
+        c.name += if telling { "-t" } else { "-s" };
+    }
+    c
 }
