@@ -3,6 +3,7 @@
 use crate::case::Case;
 use crate::force::Force;
 use crate::random::Random;
+use crate::tolerances::sharpened;
 use std::io::{self, Write};
 
 /// 0 to 8 by steps of 1, as 01's examples have it: S = 1, C = 1, tolerances 0, no samples.
@@ -188,12 +189,15 @@ pub fn drawn(seed: u64, count: u64) -> impl Iterator<Item = Case> {
     })
 }
 
-/// The same, one in four to be put away on its way, by a generator of its own too.
+/// The same, one in four to be put away on its way, and two in three sharpened where they can be, by generators of their own too.
 pub fn random(seed: u64, count: u64, out: &mut impl Write) -> io::Result<()> {
-    let mut rng = Random(!seed);
+    let (mut away, mut sharp) = (Random(!seed), Random(seed ^ 0x204));
     for mut c in drawn(seed, count) {
-        if rng.once_in(4) {
-            c.away = rng.pick(&[1, 1, 1, 2, 3, 5, 8, 41]);
+        if away.once_in(4) {
+            c.away = away.pick(&[1, 1, 1, 2, 3, 5, 8, 41]);
+        }
+        if !sharp.once_in(3) && !c.has_blank_date() {
+            c = sharpened(c, &mut sharp);
         }
         writeln!(out, "{}", c.line())?;
     }

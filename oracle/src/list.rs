@@ -4,6 +4,7 @@ use crate::case::Case;
 use crate::cases::{drawn, plain, SPECIAL, TOLERANCES};
 use crate::dates::{blanks, far_apart};
 use crate::force::Force;
+use crate::sizes;
 use crate::tables;
 use std::io::{self, Write};
 
@@ -195,6 +196,10 @@ pub fn print(out: &mut impl Write) -> io::Result<()> {
     writeln!(out, "{}", away_late().line().replacen("case", "final", 1))?;
     for words in BAD_AWAY {
         writeln!(out, "{}{words}", plain("away-bad").line())?;
+    }
+    writeln!(out, "\n# Tolerances at what they are compared with and beside it, and sizes that overflow, underflow or are NaN.")?;
+    for c in sizes::list() {
+        writeln!(out, "{}", c.line())?;
     }
     Ok(())
 }

@@ -11,12 +11,15 @@
 mod case;
 mod cases;
 mod dates;
+mod doubles;
 mod examples;
 mod force;
 mod list;
 mod orbit;
 mod random;
+mod sizes;
 mod tables;
+mod tolerances;
 mod transcript;
 #[path = "../../tools/with_acceleration.rs"]
 mod with_acceleration;

@@ -1,6 +1,7 @@
 // SPDX-License-Identifier: MIT OR Apache-2.0
 //! Tables of samples, and times asked between them: random ones from a seed, and those of the stored list.
 use crate::cases::{component, one_nan, SPECIAL};
+use crate::doubles::{next_down, next_up};
 use crate::random::Random;
 use std::io::{self, Write};
 
@@ -49,7 +50,7 @@ fn rising(rng: &mut Random, count: usize) -> Vec<f64> {
     while times.len() < count && t < f64::MAX {
         times.push(t);
         let on = t + if even { step } else { step * (rng.unit() + 1.01) };
-        t = if on > t { on } else { t.next_up() };
+        t = if on > t { on } else { next_up(t) };
     }
     if rng.once_in(25) && times.len() > 1 {
         let end = times.len() - 1;
@@ -72,8 +73,8 @@ fn asked(rng: &mut Random, times: &[f64]) -> f64 {
     match rng.below(20) {
         0..=4 => near,
         5..=12 => near + (next - near) * (rng.unit() + 1.0) * 0.5,
-        13 => near.next_up(),
-        14 => near.next_down(),
+        13 => next_up(near),
+        14 => next_down(near),
         15 => times[0] + (times[0] - times[times.len() - 1]) * rng.unit(),
         16 => NAN,
         17 => rng.pick(&SPECIAL),
@@ -146,7 +147,7 @@ fn around(name: &str, times: &[f64]) -> Vec<String> {
         inside.push(pair[0] + (pair[1] - pair[0]) * 0.99);
     }
     let (low, high) = times.iter().fold((INF, -INF), |(a, b), t| (a.min(*t), b.max(*t)));
-    let outside = [low.next_down(), high.next_up(), low - 1.0, high + 1.0, INF, -INF];
+    let outside = [next_down(low), next_up(high), low - 1.0, high + 1.0, INF, -INF];
     let mut sorted = inside.clone();
     sorted.sort_by(|x, y| x.partial_cmp(y).unwrap());
     if times[0] > times[times.len() - 1] {

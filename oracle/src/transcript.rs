@@ -128,8 +128,9 @@ fn between(out: &mut impl Write, got: Result<Vec<Told<3>>, OdeError>) -> io::Res
 
 /// One line; false where it has no such shape.
 fn take(words: &[&str], samples: &mut Samples, out: &mut impl Write) -> io::Result<bool> {
-    let Some((kind, rest)) = words.split_first() else {
-        return Ok(true);
+    let (kind, rest) = match words.split_first() {
+        Some(parts) => parts,
+        None => return Ok(true),
     };
     let times: Option<Vec<f64>> = rest.iter().map(|w| read_float(w)).collect();
     match (*kind, times) {

@@ -18,6 +18,26 @@ pub struct Case {
     pub p: [f64; 4],
     /// The run is put away and taken up before every so many-th answer; 0 is never.
     pub away: usize,
+    pub sharpness: Sharpness,
+}
+
+/// Whether a tolerance was put where the run decides, and whether the number of answers changes close by; a case's name ends accordingly
+/// (oracle/src/tolerances.rs).
+#[derive(Clone, Copy, PartialEq)]
+pub enum Sharpness {
+    Plain,
+    Sharpened,
+    Telling,
+}
+
+impl Sharpness {
+    fn of(name: &str) -> Sharpness {
+        match name.rsplit('-').next() {
+            Some("s") => Sharpness::Sharpened,
+            Some("t") => Sharpness::Telling,
+            _ => Sharpness::Plain,
+        }
+    }
 }
 
 impl Case {
@@ -51,6 +71,7 @@ impl Case {
             force: NAMES.iter().find(|(name, _)| *name == words[17])?.1,
             p: [f(18)?, f(19)?, f(20)?, f(21)?],
             away,
+            sharpness: Sharpness::of(words[1]),
         })
     }
 

@@ -220,6 +220,7 @@ pub fn follow(case: &Case, judge: &mut Judge, rng: &mut Random, tally: &mut Tall
     if matches!(record.end, Err(OdeError::StepNotFinite)) {
         return refused_start(case, case.settings, 1, rng, tally);
     }
+    tally.tolerances.count(case, record.cut_short(case));
     let mut run = Run([rng.bits(); 132]);
     let mut reply = start(&mut run, case, case.settings);
     let room = room_for(case, &record, rng);

@@ -1,7 +1,8 @@
 // SPDX-License-Identifier: MIT OR Apache-2.0
 //! The module and the library in one process, on the same cases: every question, sample, state, count and refusal, and every byte of the
 //! buffers, written and not written; runs put away and taken up, damaged forms, and accelerations between samples, against a second writing of
-//! W-201, W-202 and W-203. Cases come on standard input, as `oracle cases` writes them; the tampering comes from a seed.
+//! W-201, W-202 and W-203. Cases come on standard input, as `oracle cases` writes them, tolerances of any value among them; the tampering comes from
+//! a seed.
 #[path = "../../oracle/src/force.rs"]
 mod force;
 #[path = "../../oracle/src/random.rs"]
@@ -80,7 +81,8 @@ fn take(line: &str, forms: bool, judge: &mut Judge, rng: &mut Random, tally: &mu
 
 fn end(tally: &Tally, seed: u64, spent: f64) -> i32 {
     tally.print(seed, spent);
-    match tally.forms.every_kind_was_met().and(tally.every_refusal_was_met()).and(tally.every_acceleration_was_met()) {
+    let met = tally.forms.every_kind_was_met().and(tally.every_refusal_was_met());
+    match met.and(tally.every_acceleration_was_met()).and(tally.every_tolerance_was_met()) {
         Ok(()) => 0,
         Err(fault) => {
             println!("{fault}");

@@ -52,6 +52,17 @@ impl Record {
         }
         record
     }
+
+    /// Whether a tolerance cut the startup short, and whether one cut a step's corrections short: with that one at zero there are more questions.
+    pub fn cut_short(&self, case: &Case) -> [bool; 2] {
+        let Settings { startup_tol, corrector_tol, .. } = case.settings;
+        let asked = |startup_tol| {
+            let settings = Settings { startup_tol, corrector_tol: 0.0, ..case.settings };
+            play(&Case { settings, ..case.clone() }).asked.len()
+        };
+        let all_corrections = if corrector_tol > 0.0 { asked(startup_tol) } else { self.asked.len() };
+        [startup_tol > 0.0 && all_corrections < asked(0.0), self.asked.len() < all_corrections]
+    }
 }
 
 /// On refusal 2 the module drops its samples. The same run to where its clock stood has them, if it ends there by the same questions;

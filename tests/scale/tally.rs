@@ -1,5 +1,6 @@
 // SPDX-License-Identifier: MIT OR Apache-2.0
 //! What was compared, counted.
+use crate::case::{Case, Sharpness};
 use crate::check::{holds, Verdict};
 
 /// Damaged forms, by what became of them.
@@ -61,6 +62,35 @@ impl Accelerations {
     }
 }
 
+/// Runs by their tolerances, the startup's first, then the corrector's.
+#[derive(Default)]
+pub struct Tolerances {
+    above_zero: [u64; 2],
+    /// Of these: the startup, or the corrections of a step, were cut short by it.
+    cut_short: [u64; 2],
+    sharpened: u64,
+    /// Of the sharpened ones: the number of answers changes close by.
+    telling: u64,
+}
+
+impl Tolerances {
+    pub fn count(&mut self, case: &Case, cut_short: [bool; 2]) {
+        for (n, tol) in [case.settings.startup_tol, case.settings.corrector_tol].into_iter().enumerate() {
+            self.above_zero[n] += u64::from(tol > 0.0);
+            self.cut_short[n] += u64::from(cut_short[n]);
+        }
+        self.sharpened += u64::from(case.sharpness != Sharpness::Plain);
+        self.telling += u64::from(case.sharpness == Sharpness::Telling);
+    }
+
+    fn print(&self) {
+        let ([startup, corrector], [passes, corrections]) = (self.above_zero, self.cut_short);
+        println!("  runs with a tolerance above zero: {startup} for the startup, {passes} of them cut short by it;");
+        println!("    {corrector} for the corrector, {corrections} of them with corrections cut short by it");
+        println!("    {} sharpened, {} of them telling", self.sharpened, self.telling);
+    }
+}
+
 #[derive(Default)]
 pub struct Tally {
     pub cases: u64,
@@ -80,6 +110,7 @@ pub struct Tally {
     pub tables: u64,
     pub times: u64,
     pub accelerations: Accelerations,
+    pub tolerances: Tolerances,
     /// Runs put away and taken up in the middle of their line; and older forms taken up again.
     pub away: u64,
     pub older: u64,
@@ -98,6 +129,7 @@ impl Tally {
         println!("  {} tables, {} times between their samples", self.tables, self.times);
         let a = &self.accelerations;
         println!("    components of their accelerations: {} finite, {} infinite, {} NaN", a.finite, a.infinite, a.nan);
+        self.tolerances.print();
         println!("  {} times put away and taken up, {} older forms taken up again", self.away, self.older);
         self.forms.print();
     }
@@ -115,5 +147,11 @@ impl Tally {
         holds(kinds.iter().sum::<u64>() == 3 * self.times, "a time was read without its acceleration")?;
         let few = self.cases < ENOUGH_CASES || cfg!(not(feature = "dense"));
         holds(few || kinds.iter().all(|n| *n > 0), "no acceleration between samples was finite, infinite or NaN")
+    }
+
+    pub fn every_tolerance_was_met(&self) -> Verdict {
+        let few = self.cases < ENOUGH_CASES;
+        holds(few || self.tolerances.telling > 0, "no tolerance was telling")?;
+        holds(few || self.tolerances.cut_short.iter().all(|n| *n > 0), "no tolerance cut a startup short, or none a step's corrections")
     }
 }

@@ -1,6 +1,7 @@
 // SPDX-License-Identifier: MIT OR Apache-2.0
-//! A stand-in for numeris, written from document 01: operations component by component, each product and each sum
-//! rounded once, division a true division, and `scaled_norm` the size that 01 chose in its place. It is not numeris.
+//! A stand-in for numeris. Its operations are written from document 01: component by component, each product and each sum
+//! rounded once, division a true division. `scaled_norm` is the size that document 02 (W-204) puts in its place. It is not
+//! numeris.
 use std::ops::{Add, AddAssign, Div, Index, Mul, Neg, Sub};
 
 pub mod ode {
@@ -27,6 +28,7 @@ pub trait FloatScalar:
     fn from(x: f64) -> Option<Self>;
     fn to_f64(self) -> Option<f64>;
     fn abs(self) -> Self;
+    fn sqrt(self) -> Self;
 }
 
 impl FloatScalar for f64 {
@@ -44,6 +46,10 @@ impl FloatScalar for f64 {
     }
     fn abs(self) -> f64 {
         f64::abs(self)
+    }
+    /// Rounded once, to nearest, as IEEE 754 asks of it.
+    fn sqrt(self) -> f64 {
+        f64::sqrt(self)
     }
 }
 
@@ -63,18 +69,11 @@ impl<T: FloatScalar, const D: usize> Vector<T, D> {
         Vector(self.0.map(T::abs))
     }
 
-    /// NaN if a component is NaN, else the largest absolute value.
+    /// The root of the mean square. The sum begins with the first square, not with zero, and takes the others in order.
     pub fn scaled_norm(self) -> T {
-        let mut largest = T::zero();
-        for x in self.0 {
-            if x.partial_cmp(&x).is_none() {
-                return x;
-            }
-            if x.abs() > largest {
-                largest = x.abs();
-            }
-        }
-        largest
+        let squares = self.0.map(|x| x * x);
+        let sum = squares[1..].iter().fold(squares[0], |sum, x| sum + *x);
+        (sum / T::from(D as f64).unwrap()).sqrt()
     }
 
     fn with(self, other: Self, op: impl Fn(T, T) -> T) -> Self {
