@@ -7,7 +7,7 @@
 //! each correction.
 use crate::case::Case;
 use crate::doubles::{next_down, next_up};
-use crate::force::{Source, V3};
+use crate::force::{Force, Source, V3};
 use crate::gauss_jackson::GaussJackson8;
 use crate::random::Random;
 use std::f64::consts::{FRAC_1_SQRT_2, SQRT_2};
@@ -166,13 +166,26 @@ impl Tolerance {
     }
 }
 
-/// A case with one of its tolerances sharpened, or both, if it meets any quotient. Its name then ends in -t where the last one is telling, with the
-/// other in its place, else in -s.
-pub fn sharpened(mut c: Case, rng: &mut Random) -> Case {
-    let (order, both) = rng.pick(&[([Startup, Corrector], false), ([Corrector, Startup], false), ([Startup, Corrector], true)]);
-    let done = order.into_iter().filter_map(|which| which.sharpen(&mut c, rng)).take(1 + both as usize).last();
-    if let Some(telling) = done {
-        c.name += if telling { "-t" } else { "-s" };
+/// A linear run, so much smaller that squares of its changes are subnormal, or zero: its quotients stay, but for what is lost there.
+fn shrink(c: &mut Case, rng: &mut Random) {
+    let k = 10f64.powi(-150 - rng.below(13) as i32);
+    (c.r0, c.v0, c.p[2]) = (c.r0.map(|x| x * k), c.v0.map(|x| x * k), 0.0);
+}
+
+/// A case with one of its tolerances sharpened, or both, if it meets any quotient; one linear run in eight is shrunk before. Its name then ends in -t
+/// where the last tolerance is telling, with the other in its place, else in -s.
+pub fn sharpened(c: Case, rng: &mut Random) -> Case {
+    let mut sharp = c.clone();
+    if rng.once_in(8) && matches!(c.force, Force::Lin) {
+        shrink(&mut sharp, rng);
     }
-    c
+    let (order, both) = rng.pick(&[([Startup, Corrector], false), ([Corrector, Startup], false), ([Startup, Corrector], true)]);
+    let done = order.into_iter().filter_map(|which| which.sharpen(&mut sharp, rng)).take(1 + both as usize).last();
+    match done {
+        None => c,
+        Some(telling) => {
+            sharp.name += if telling { "-t" } else { "-s" };
+            sharp
+        }
+    }
 }
