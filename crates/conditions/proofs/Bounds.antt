@@ -2,24 +2,21 @@
 -- come to.
 use mathlib.Core.Path.{_≡_, refl, sym, _∙_, subst}
 use Prim.Native.Nat.{ℕ, _+_, _*_, _^_, _≤_, _<_}
-use native.Mathlib.Nat.{le-trans, le-of-eq, le-of-lt, lt-of-le-of-lt, mul-one, mul-le-mul, mul-le-mul-left, mul-le-mul-right, le-of-mul-le-mul-right, lt-of-mul-lt-mul-right, mul-pos, zero-lt-suc}
+use native.Mathlib.Nat.{le-trans, le-of-eq, le-of-lt, lt-of-le-of-lt, lt-of-lt-of-le, mul-one, mul-le-mul, mul-le-mul-left, mul-le-mul-right, le-of-mul-le-mul-right, lt-of-mul-lt-mul-right, mul-pos, zero-lt-suc}
 use native.Mathlib.Omega.{arith}
 use mathlib.Core.Bool.{Bool, true, false, _&&_, false≢true}
-use lib.IntN.{pos}
 use lib.Dec.{lit≤, lit<}
 use lib.Pow.{pow-pos}
-use lib.Ieee.{Float, fin, binary64, round, add, mul, lt}
+use lib.Ieee.{Float, binary64, round, fits, add, mul, lt}
 use borrow.Author.Tests.{ltb-true}
 use Rattle.double.specs.Doubles.{Double}
-use Rattle.double.specs.Units.{unitsIn, NotNegative}
-use Rattle.double.proofs.Signs.{round-clear}
-use Rattle.double.proofs.Units.{Units, own-units, lt-units, below-tells, above-tells, between}
+use Rattle.double.specs.Units.{inUnits, unitsIn, NotNegative}
+use Rattle.double.proofs.Units.{Units, own-units, lt-units, between}
 use Rattle.double.proofs.Off.{Within, product, total}
 use Rattle.root.specs.Root.{rootOf}
 use Rattle.root.proofs.Nearest.{double-root}
 use Rattle.root.proofs.Squares.{About, root-about}
 use Rattle.triple.specs.Size.{tiny}
-use Rattle.plan.specs.Plan.{decimal}
 use Rattle.conditions.specs.Usual.{vast, isUsual}
 use Rattle.conditions.proofs.Chains.{sq-le}
 
@@ -32,38 +29,35 @@ pub record Usual (tol q : Float) : Type 0 where
   pub q-low : 2 ^ 924 ≤ unitsIn q
   pub q-high : unitsIn q < 2 ^ 1574
 
-abbrev one : Float
-one = fin false 1 (pos 0)
+-- above a constant, and below one
+over : (least : ℕ) (lo x : Float) → Double lo → NotNegative lo → least ≤ unitsIn lo → Double x → NotNegative x → lt lo x ≡ true → least ≤ unitsIn x
+over least lo x G M l F N h =
+    le-trans l (le-of-lt (ltb-true (unitsIn lo) (unitsIn x) (sym (lt-units lo x (unitsIn lo) (unitsIn x) (own-units lo G M) (own-units x F N)) ∙ h)))
 
-usual-at : (tol q : Float) → Double tol → Double q → lt (decimal 60) tol ≡ true → lt tol one ≡ true → lt (decimal 45) q ≡ true → lt q vast ≡ true → Usual tol q
-unfolding vast
-usual-at tol q F G a b c d =
-    let T = between (decimal 60) tol one (round-clear binary64 1 (10 ^ 60)) a b in
-    let Q = between (decimal 45) q vast (round-clear binary64 1 (10 ^ 45)) c d in
-    record {
-      tol-plus = T;
-      tol-low = least (2 ^ 874) (10 ^ 60) (unitsIn tol) (lit≤ tt) (below-tells 1 (10 ^ 60) tol (unitsIn tol) (lit< tt) F (own-units tol F T) a) (lit< tt);
-      tol-high = ltb-true (unitsIn tol) (2 ^ 1074) (sym (lt-units tol one (unitsIn tol) (2 ^ 1074) (own-units tol F T) (refl, refl)) ∙ b);
-      q-plus = Q;
-      q-low = least (2 ^ 924) (10 ^ 45) (unitsIn q) (lit≤ tt) (below-tells 1 (10 ^ 45) q (unitsIn q) (lit< tt) G (own-units q G Q) c) (lit< tt);
-      q-high = lt-of-le-of-lt (le-trans (le-of-eq (sym (mul-one (unitsIn q)))) (above-tells (10 ^ 150) 1 q (unitsIn q) (zero-lt-suc 0) G (own-units q G Q) d)) (lit< tt);
-    }
-  where
-    -- 1 / c at least, in units
-    least : (low c n : ℕ) → low * c ≤ 1 * 2 ^ 1074 → 1 * 2 ^ 1074 ≤ n * c → 0 < c → low ≤ n
-    least low c n h l p = le-of-mul-le-mul-right (le-trans h l) p
+under : (most : ℕ) (hi x : Float) → Double hi → NotNegative hi → unitsIn hi ≤ most → Double x → NotNegative x → lt x hi ≡ true → unitsIn x < most
+under most hi x G M l F N h =
+    lt-of-lt-of-le (ltb-true (unitsIn x) (unitsIn hi) (sym (lt-units x hi (unitsIn x) (unitsIn hi) (own-units x F N) (own-units hi G M)) ∙ h)) l
+
+both : (a b : Bool) → a && b ≡ true → (a ≡ true) × (b ≡ true)
+both true b h = (refl, h)
+both false b h = absurd (false≢true h)
 
 pub usual : (tol q : Float) → Double tol → Double q → isUsual tol q ≡ true → Usual tol q
-unfolding isUsual
+unfolding isUsual vast round fits inUnits
 usual tol q F G h =
-    let a = both (lt (decimal 60) tol) _ h in
-    let b = both (lt tol one) _ (a .1) in
-    let c = both (lt (decimal 45) q) (lt q vast) (b .1) in
-    usual-at tol q F G (a .0) (b .0) (c .0) (c .1)
-  where
-    both : (a b : Bool) → a && b ≡ true → (a ≡ true) × (b ≡ true)
-    both true b h = (refl, h)
-    both false b h = absurd (false≢true h)
+    let a = both _ _ h in
+    let b = both _ _ (a .1) in
+    let c = both _ _ (b .1) in
+    let T = between _ tol _ tt (a .0) (b .0) in
+    let Q = between _ q _ tt (c .0) (c .1) in
+    record {
+      tol-plus = T;
+      tol-low = over (2 ^ 874) _ tol tt tt (lit≤ tt) F T (a .0);
+      tol-high = under (2 ^ 1074) _ tol tt tt (lit≤ tt) F T (b .0);
+      q-plus = Q;
+      q-low = over (2 ^ 924) _ q tt tt (lit≤ tt) G Q (c .0);
+      q-high = under (2 ^ 1574) _ q tt tt (lit≤ tt) G Q (c .1);
+    }
 
 -- ---- q times tol, and times tol again
 pub record Limit (tol q : Float) : Type 0 where

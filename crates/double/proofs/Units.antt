@@ -156,16 +156,6 @@ below-tells a c y b C F h k = go (ltb (b * c) (a * 2 ^ 1074)) (ltb→lt (b * c) 
     go true f g = absurd (true≢false (sym k ∙ not-below-rounded a c y b C F h (le-of-lt (f tt))))
     go false f g = g tt
 
--- and where it is above y, a / c is y at least
-pub above-tells : (a c : ℕ) (y : Float) (b : ℕ) → 0 < c → Double y → Units y b → lt y (round binary64 false a c) ≡ true → b * c ≤ a * 2 ^ 1074
-above-tells a c y b C F h k = go (ltb (a * 2 ^ 1074) (b * c)) (ltb→lt (a * 2 ^ 1074) (b * c)) (nltb→le (a * 2 ^ 1074) (b * c))
-  where
-    go : (t : Bool) → (T t → a * 2 ^ 1074 < b * c) → (T (not t) → b * c ≤ a * 2 ^ 1074) → b * c ≤ a * 2 ^ 1074
-    go true f g =
-        absurd (clash (round binary64 false a c) y (round-clear binary64 a c) (units-clear y b h)
-        (subst (λ (z : Float). T (le (round binary64 false a c) z)) (units-round y b F h) (round-mono binary64 a c b (2 ^ 1074) C (pow-pos 1074) (le-of-lt (f tt)))) k)
-    go false f g = g tt
-
 -- ---- what lies above a float without a minus sign, and below any, is finite and has none
 pub between : (lo x hi : Float) → Clear lo → lt lo x ≡ true → lt x hi ≡ true → NotNegative x
 unfolding lt

@@ -108,8 +108,5 @@ pub fn root(x: f64) -> f64
         }
         return x;
     }
-    if x == 0.0 {
-        return x;
-    }
-    0.0 / 0.0
+    if x == 0.0 { x } else { 0.0 / 0.0 }
 }
