@@ -38,6 +38,10 @@ uint32_t module_read(const reading *reading, bool batch);
 uint32_t plain_read(const reading *reading, bool batch);
 uint32_t library_read(const reading *reading, bool batch);
 
+/* The root of a float: the processor's, and the proved library's, which crates/probe hands out by itself. The module leaves it to the processor too. */
+double plain_root(double x);
+double probe_root(double x);
+
 /* A run put away in a stored form, and taken up from one: as gj_store and gj_load of the library. The module has no such thing. */
 uint32_t plain_store(const gj_run *run, uint8_t *out, size_t bytes);
 gj_reply plain_load(gj_run *run, const uint8_t *in, size_t bytes);

@@ -2,7 +2,7 @@
 /* driver COLUMN WORK: does one work in one column, and prints a line: answers or times read, seconds, and a digest of all results (of the
  * accelerations between samples one of its own).
  *   COLUMN  module, plain, library; none, which does all but the work, so that its instructions can be taken away
- *   WORK    year, year-defaults, day, single, batch; store-POINT and load-POINT, which the module has not, at a POINT of POINTS below */
+ *   WORK    year, year-defaults, day, single, batch; root, store-POINT and load-POINT, which the module has not, at a POINT of POINTS below */
 #include "bench.h"
 
 #include <stdio.h>
@@ -10,7 +10,7 @@
 #include <string.h>
 #include <time.h>
 
-enum { DAYS = 100, READINGS = 1000000, STORINGS = 10000, STEPS = 1440, NUMBERS = 10 * (STEPS + 1) };
+enum { DAYS = 100, READINGS = 1000000, ROOTS = 1000000, STORINGS = 10000, STEPS = 1440, NUMBERS = 10 * (STEPS + 1) };
 
 typedef struct column {
     const char *name;
@@ -18,6 +18,7 @@ typedef struct column {
     uint32_t (*read)(const reading *, bool);
     uint32_t (*store)(const gj_run *, uint8_t *, size_t);
     gj_reply (*load)(gj_run *, const uint8_t *, size_t);
+    double (*root)(double);
 } column;
 
 static void no_run(const task *task, gj_reply *end) { (void)task, (void)end; }
@@ -28,10 +29,12 @@ static uint32_t no_store(const gj_run *run, uint8_t *out, size_t bytes) { return
 
 static gj_reply no_load(gj_run *run, const uint8_t *in, size_t bytes) { return (void)run, (void)in, (void)bytes, (gj_reply){0}; }
 
-static const column COLUMNS[] = {{"module", module_run, module_read, NULL, NULL},
-                                 {"plain", plain_run, plain_read, plain_store, plain_load},
-                                 {"library", library_run, library_read, gj_store, gj_load},
-                                 {"none", no_run, no_read, no_store, no_load}};
+static double no_root(double x) { return x; }
+
+static const column COLUMNS[] = {{"module", module_run, module_read, NULL, NULL, NULL},
+                                 {"plain", plain_run, plain_read, plain_store, plain_load, plain_root},
+                                 {"library", library_run, library_read, gj_store, gj_load, probe_root},
+                                 {"none", no_run, no_read, no_store, no_load, no_root}};
 
 /* Where the runs wait that are put away: gj_mark's three numbers. */
 static const struct point {
@@ -116,6 +119,22 @@ static void read_off(const column *c, bool batch) {
     tell_rows(seconds, rows);
 }
 
+/* A million numbers of all sizes above zero, from 2^-500 up to 2^500. */
+static bool take_roots(const column *c) {
+    static double numbers[ROOTS], roots[ROOTS];
+    uint64_t state = 1;
+    if (c->root == NULL) return false;
+    for (int i = 0; i < ROOTS; i++) {
+        state = state * 6364136223846793005u + 1442695040888963407u;
+        uint64_t bits = (state >> 12) | ((523 + (state >> 33) % 1001) << 52);
+        memcpy(&numbers[i], &bits, sizeof bits);
+    }
+    double began = now();
+    for (int i = 0; i < ROOTS; i++) roots[i] = c->root(numbers[i]);
+    tell(ROOTS, now() - began, digest(roots, sizeof roots, 14695981039346656037u));
+    return true;
+}
+
 /* A run that waits there: with samples, every pass and a tail. */
 static gj_run run_at(const struct point *p) {
     static double out[NUMBERS];
@@ -188,6 +207,7 @@ int main(int argc, char **argv) {
     else if (strcmp(argv[2], "day") == 0) run_days(c);
     else if (strcmp(argv[2], "single") == 0) read_off(c, false);
     else if (strcmp(argv[2], "batch") == 0) read_off(c, true);
+    else if (strcmp(argv[2], "root") == 0) return take_roots(c) ? 0 : 2;
     else return store_or_load(c, argv[2]) ? 0 : 2;
     return 0;
 }

@@ -10,8 +10,8 @@ if [ "$with" = cross ] && [ -z "$static" ]; then static=-no-pie; fi
 # The objects of $objects, as files.
 object_files() { for part in $objects; do echo "$out/$part.o"; done; }
 
-# The columns that have a work: the module has no stored runs.
-columns_of() { case $1 in store-* | load-*) echo plain library ;; *) echo "$columns" ;; esac; }
+# The columns that have a work: the module has no stored runs, and no root of its own.
+columns_of() { case $1 in root | store-* | load-*) echo plain library ;; *) echo "$columns" ;; esac; }
 
 # Every work that the words name: store and load stand for themselves at each of the points.
 all_works() {
@@ -37,7 +37,7 @@ build_driver() {
     name=$1
     shift
     compile_over_module $out --crate-name module "$@" bench/module.rs -o "$out/lib$name.a"
-    link_rust $(object_files) "$out/lib$name.a" "$library" -o "$out/driver-$name"
+    link_rust $(object_files) "$out/lib$name.a" "$library" "$probe" -o "$out/driver-$name"
 }
 
 build_drivers() {

@@ -15,13 +15,8 @@ static inline gj_triple over(gj_triple a, double k) { return (gj_triple){a.x / k
 /* a, unless b is greater. */
 static inline double larger(double a, double b) { return b > a ? b : a; }
 
-/* NaN if a component is NaN, else the largest absolute value. */
-static inline double size(gj_triple a) {
-    if (a.x != a.x) return a.x;
-    if (a.y != a.y) return a.y;
-    if (a.z != a.z) return a.z;
-    return larger(larger(fabs(a.x), fabs(a.y)), fabs(a.z));
-}
+/* The root of the mean square, by the processor's own root. */
+static inline double size(gj_triple a) { return sqrt((a.x * a.x + a.y * a.y + a.z * a.z) / 3.0); }
 
 /* The sum of a[k]·row[k], from zero, k upward. */
 static inline gj_triple weighted(const gj_triple *a, const double *row, int n) {

@@ -32,6 +32,14 @@ prove_library() {
     library_stamp >$stamp
 }
 
+# Leaves of the library by themselves, for tests/root and bench/, which are proved here or not at all: $probe is their archive.
+need_probe() {
+    [ -n "$kit" ] || lacks "$kit_wanted"
+    mkdir -p target
+    rt staticlib probe >target/probe.log 2>&1 || { cat target/probe.log >&2; echo "the probe is not proved: see above" >&2; exit 1; }
+    probe=target/staticlib/libprobe.a
+}
+
 # The calls that the header declares, a line each.
 declared_calls() { sed -n 's/^[a-z].* \**\(gj_[a-z_]*\)(.*/\1/p' include/gauss_jackson.h; }
 
