@@ -4,13 +4,14 @@ use mathlib.Core.Path.{_≡_, refl, sym, _∙_, subst}
 use Prim.Native.Nat.{ℕ, _+_, _*_, _^_, _≤_, _<_}
 use native.Mathlib.Nat.{le-trans, le-of-eq, le-of-lt, lt-of-le-of-lt, lt-of-lt-of-le, mul-one, mul-le-mul, mul-le-mul-left, mul-le-mul-right, le-of-mul-le-mul-right, lt-of-mul-lt-mul-right, mul-pos, zero-lt-suc}
 use native.Mathlib.Omega.{arith}
-use mathlib.Core.Bool.{Bool, true, false, _&&_, false≢true}
+use mathlib.Core.Bool.{true}
 use lib.Dec.{lit≤, lit<}
 use lib.Pow.{pow-pos}
 use lib.Ieee.{Float, binary64, round, fits, add, mul, lt}
 use borrow.Author.Tests.{ltb-true}
 use Rattle.double.specs.Doubles.{Double}
 use Rattle.double.specs.Units.{inUnits, unitsIn, NotNegative}
+use Rattle.double.proofs.Booleans.{both}
 use Rattle.double.proofs.Units.{Units, own-units, lt-units, between}
 use Rattle.double.proofs.Off.{Within, product, total}
 use Rattle.root.specs.Root.{rootOf}
@@ -37,10 +38,6 @@ over least lo x G M l F N h =
 under : (most : ℕ) (hi x : Float) → Double hi → NotNegative hi → unitsIn hi ≤ most → Double x → NotNegative x → lt x hi ≡ true → unitsIn x < most
 under most hi x G M l F N h =
     lt-of-lt-of-le (ltb-true (unitsIn x) (unitsIn hi) (sym (lt-units x hi (unitsIn x) (unitsIn hi) (own-units x F N) (own-units hi G M)) ∙ h)) l
-
-both : (a b : Bool) → a && b ≡ true → (a ≡ true) × (b ≡ true)
-both true b h = (refl, h)
-both false b h = absurd (false≢true h)
 
 pub usual : (tol q : Float) → Double tol → Double q → isUsual tol q ≡ true → Usual tol q
 unfolding isUsual vast round fits inUnits

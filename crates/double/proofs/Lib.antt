@@ -1,3 +1,4 @@
+pub mod Booleans
 pub mod Own
 pub mod Zeros
 pub mod Nans

@@ -1,7 +1,7 @@
 -- Zeros: what is rounded to one, and what "== 0.0" and "> 0.0" tell of a float.
 use Prim.Native.Nat.{ℕ, zero, suc, _*_, _<_}
 use mathlib.Core.Path.{_≡_, refl, ap, _∙_}
-use mathlib.Core.Bool.{Bool, true, false, _&&_, _||_, Bool·beq, false≢true}
+use mathlib.Core.Bool.{Bool, true, false, _||_, Bool·beq, false≢true}
 use native.Mathlib.Omega.{arith}
 use native.Mathlib.Nat.{mul-pos, zero-mul, zero-lt-suc}
 use lib.IntN.{ℤ, pos}
@@ -9,6 +9,7 @@ use lib.Ieee.{Float, nan, inf, fin, binary64, up, down, round, lt, eq}
 use lib.Ieee.Fits.{up-pos}
 use borrow.Author.Tests.{ltb-true, lt-ltb, eqb-true}
 use Rattle.double.specs.Doubles.{nought}
+use Rattle.double.proofs.Booleans.{both}
 use Rattle.double.proofs.Own.{zero-round}
 
 -- 0.0 or -0.0
@@ -33,17 +34,13 @@ is-zero t e =
 pub zero-is : (x : Float) → Zero x → eq x nought ≡ true
 zero-is x (t, p) = ap (λ (y : Float). eq y nought) p ∙ is-zero t (pos 0)
 
-first : (a b : Bool) → (a && b) ≡ true → a ≡ true
-first true b h = refl
-first false b h = h
-
 pub zero-by : (x : Float) → eq x nought ≡ true → (t : Bool) × ((e : ℤ) × (x ≡ fin t 0 e))
 unfolding eq
 zero-by nan h = absurd (false≢true h)
 zero-by (inf s) h = absurd (false≢true h)
 zero-by (fin s zero e) h = (s, (e, refl))
 zero-by (fin s (suc m) e) h =
-    let z : suc m * up e * 1 ≡ 0 * 1 * down e = eqb-true (suc m * up e * 1) (0 * 1 * down e) (first _ _ h) in
+    let z : suc m * up e * 1 ≡ 0 * 1 * down e = eqb-true (suc m * up e * 1) (0 * 1 * down e) (both _ _ h .0) in
     absurd (omega (arith, z, mul-pos (zero-lt-suc m) (up-pos e)))
 
 -- ---- above 0.0: a number or the infinity

@@ -12,7 +12,7 @@ use Rattle.double.specs.Units.{unitsIn, NotNegative}
 abbrev pub Nearer : ℕ → ℕ → ℕ → Type 0
 Nearer n r y = (r < y → 4 * n < (r + y) * (r + y)) × (y < r → (r + y) * (r + y) < 4 * n)
 
--- r is the f64 nearest to √x, and no other is as near: so no tie is left that would have to go to even
+-- r is the f64 nearest to √x, and no other is as near: so no tie is left that would have to go to even. What has a minus sign is further off than 0.0.
 pub record IsNearest (x r : Float) : Type 0 where
   pub double : Double r
   pub plus : NotNegative r

@@ -7,6 +7,7 @@ use native.Mathlib.Omega.{arith}
 use mathlib.Core.Bool.{Bool, true, false, not, _&&_, cond}
 use lib.Dec.{eqb, ltb}
 use borrow.Author.Tests.{leb-true, ltb-true, eqb-true, eqb-false, le-leb, lt-ltb, eq-eqb, ne-eqb}
+pub use Rattle.double.proofs.Booleans.{both}
 use Rattle.plan.specs.declared.Settings.{Settings}
 use Rattle.plan.specs.declared.Plan.{Plan}
 use Rattle.plan.specs.Limits.{maxPasses, maxSteps, areWithinLimits, wantsSamples}
@@ -26,10 +27,6 @@ use Rattle.run.proofs.Decoding.{read}
 -- ---- tests
 apart : {A : Type 0} → false ≡ true → A
 apart e = let z : _≡_ {A = ℕ} 0 1 = cc in absurd (omega arith)
-
-pub both : (p q : Bool) → p && q ≡ true → (p ≡ true) × (q ≡ true)
-both true q e = (refl, e)
-both false q e = apart e
 
 joined : (p q : Bool) → p ≡ true → q ≡ true → p && q ≡ true
 joined p q e f = rw (e, f)

@@ -1,10 +1,11 @@
 -- The size at its edges: NaN, infinite and zero; and that signs do not count.
 use mathlib.Core.Path.{_≡_, refl, ap, _∙_, subst}
 use Prim.Native.Nat.{_+_, _*_}
-use mathlib.Core.Bool.{Bool, true, false, _&&_, _||_, false≢true, true≢false}
+use mathlib.Core.Bool.{Bool, true, false, _||_, false≢true, true≢false}
 use lib.Ieee.{Float, nan, inf, fin, binary64, up, down, round, sum, add, mul, div, eq, isNan}
 use lib.Ieee.Fits.{mul-fits}
 use Rattle.double.specs.Doubles.{Double, nought}
+use Rattle.double.proofs.Booleans.{both}
 use Rattle.double.proofs.Own.{zero-own}
 use Rattle.double.proofs.Zeros.{zero-by}
 use Rattle.double.proofs.Nans.{nan-plus, add-nan}
@@ -114,22 +115,18 @@ square-zero x h = let (t, (e, p)) = zero-by (mul binary64 x x) h in p ∙ by t e
     by true e h f = absurd h
     by false e h f = ap (fin false 0) (zero-own false e f)
 
-all-three : (p q r : Bool) → p && q && r ≡ true → (p ≡ true) × (q ≡ true) × (r ≡ true)
-all-three true true r h = (refl, refl, h)
-all-three true false r h = absurd (false≢true h)
-all-three false q r h = absurd (false≢true h)
-
 no-size : sized nought nought nought ≡ nought
 unfolding rootOf div add round
 no-size = refl
 
 pub zero-size : ZeroSize
 zero-size a h =
-    let z = all-three (eq (square (a .x)) nought) (eq (square (a .y)) nought) (eq (square (a .z)) nought) h in
+    let (xy, z) = both _ _ h in
+    let (x, y) = both _ _ xy in
     size-is a
-    ∙ ap (λ (w : Float). sized w (square (a .y)) (square (a .z))) (square-zero (a .x) (z .0))
-    ∙ ap (λ (w : Float). sized nought w (square (a .z))) (square-zero (a .y) (z .1))
-    ∙ ap (λ (w : Float). sized nought nought w) (square-zero (a .z) (z .2))
+    ∙ ap (λ (w : Float). sized w (square (a .y)) (square (a .z))) (square-zero (a .x) x)
+    ∙ ap (λ (w : Float). sized nought w (square (a .z))) (square-zero (a .y) y)
+    ∙ ap (λ (w : Float). sized nought nought w) (square-zero (a .z) z)
     ∙ no-size
 
 -- ---- signs
