@@ -1,13 +1,14 @@
 -- Whole numbers only: from mean squares to sizes, each step within its part of the exact one. P and Q are the mean squares of the change and of the new
 -- value, t the tolerance, W and L what Q times t, and times t again, come to; A and B are the roots of P and Q, D is B and 1e-30; all in units, u to 1.
 use Prim.Native.Nat.{ℕ, suc, _+_, _*_, _≤_, _<_}
-use native.Mathlib.Nat.{mul-le-mul, mul-le-mul-right, lt-of-not-le, not-le-of-lt, le-of-suc-le-suc, lt-of-lt-of-le, lt-of-mul-lt-mul-right}
+use native.Mathlib.Nat.{mul-le-mul-right, lt-of-mul-lt-mul-right}
 use native.Mathlib.Omega.{arith}
+use Rattle.root.proofs.Steps.{root-le}
 
 pub sq-le : (x y : ℕ) → x * x ≤ y * y → x ≤ y
-sq-le x y h = le-of-suc-le-suc (lt-of-not-le (λ (g : suc y ≤ x). not-le-of-lt (lt-of-lt-of-le (next y) (mul-le-mul g g)) h))
+sq-le x y h = root-le (y * y) y x (next y) h
   where
-    next : (y : ℕ) → y * y < suc y * suc y
+    next : (y : ℕ) → y * y < (y + 1) * (y + 1)
     next y = omega arith
 
 -- twice the change is L at most: then A / B is 4 / 5 of the tolerance at most

@@ -33,6 +33,9 @@ newton-above n r h =
     let l : n % r < r = mod-lt n h in
     above n r (n / r) ((r + n / r) / 2 + 1) (omega arith) (omega arith)
 
+pub square : (r : ℕ) → r ≤ 2 ^ 29 → r * r ≤ 2 ^ 29 * 2 ^ 29
+square r h = mul-le-mul h h
+
 pub sq-pos : (n r : ℕ) → n < r * r → 0 < r
 sq-pos n zero h = absurd (omega arith)
 sq-pos n (suc k) h = omega arith

@@ -1,13 +1,9 @@
 -- `root::narrow_root` meets its contract. How good the guess is plays no part.
-use Prim.Native.Nat.{ℕ, _+_, _*_, _/_, _^_, _≤_, _<_}
-use native.Mathlib.Nat.{mul-le-mul}
+use Prim.Native.Nat.{_+_, _*_, _/_, _^_, _≤_, _<_}
 use native.Mathlib.Omega.{arith}
-use Rattle.root.proofs.Steps.{poly, guess, next, Guessed, guessed, sq-pos, step-down}
+use Rattle.root.proofs.Steps.{poly, guess, next, Guessed, guessed, square, sq-pos, step-down}
 use Rattle.root.proofs.narrow_root.Statement.{statement}
 use Rattle.root.proofs.narrow_root.Tie as tie
-
-square : (r : ℕ) → r ≤ 2 ^ 29 → r * r ≤ 2 ^ 29 * 2 ^ 29
-square r h = mul-le-mul h h
 
 known : (c : tie.Start) → Guessed (c .args .m) (guess (c .args .m)) (next (c .args .m))
 known c = guessed (c .args .m) (c .pre .0) (c .pre .1)

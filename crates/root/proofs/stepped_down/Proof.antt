@@ -1,8 +1,7 @@
 -- `root::stepped_down` meets its contract. The invariant: m is below the square of r + 1.
-use Prim.Native.Nat.{ℕ, _+_, _*_, _^_, _≤_, _<_}
-use native.Mathlib.Nat.{mul-le-mul}
+use Prim.Native.Nat.{_+_, _*_, _^_, _≤_, _<_}
 use native.Mathlib.Omega.{arith}
-use Rattle.root.proofs.Steps.{sq-pos, step-down}
+use Rattle.root.proofs.Steps.{square, sq-pos, step-down}
 use Rattle.root.proofs.stepped_down.Statement.{statement}
 use Rattle.root.proofs.stepped_down.Tie as tie
 
@@ -11,9 +10,6 @@ Inv-loop m start r₀ r = (m < (r + 1) * (r + 1)) × (r ≤ 2 ^ 29)
 
 abbrev μ-loop : tie.MeasureT-loop
 μ-loop m start r₀ r = r
-
-square : (r : ℕ) → r ≤ 2 ^ 29 → r * r ≤ 2 ^ 29 * 2 ^ 29
-square r h = mul-le-mul h h
 
 loop-holds : tie.Need-loop-holds Inv-loop μ-loop
 loop-holds c = c .pre
