@@ -60,7 +60,7 @@
  * six is refused (9), so no older caller's memory could be overrun. But one that has more room, kept for many times perhaps, would find its
  * numbers in other places and read an acceleration as a position. So a program built with an older header does not link: "undefined
  * reference to gj_abi_1". */
-#define GJ_VERSION "0.5.0"
+#define GJ_VERSION "0.6.0"
 #define GJ_ABI 2
 
 #ifdef __cplusplus
@@ -117,11 +117,12 @@ GJ_SIZE(gj_triple, 24);
 GJ_AT(gj_triple, y, 8);
 GJ_AT(gj_triple, z, 16);
 
-/* What the caller chooses. The step's sign does not count: the run goes from t0 towards tf. */
+/* What the caller chooses. The step's sign does not count: the run goes from t0 towards tf. A tolerance of zero or less makes every pass. The
+ * size of a triple is the root of the mean of its squares; from some 1e154 on squares overflow, and a size is infinite. */
 typedef struct gj_settings {
     double h;                      /* the step: 60 by default */
-    double corrector_tol;          /* 1e-13; zero or less makes every pass */
-    double startup_tol;            /* 1e-13 */
+    double corrector_tol;          /* 1e-13: a step's corrections stop where size(change)/(size(new) + 1e-30) is below it, for r and v */
+    double startup_tol;            /* 1e-13: the startup stops where the largest size of a change, over that of an acceleration, is below it */
     uint64_t max_corrector_iters;  /* 2, at most 100 */
     uint64_t max_startup_iters;    /* 12, at most 100 */
     uint64_t max_steps;            /* 1,000,000, at most 1,000,000 */

@@ -13,9 +13,11 @@ use crate::{abi, raw};
 pub struct Settings {
     /// The step, in the unit of time of your force: 60 by default, a minute where that unit is the second. Its sign does not count.
     pub h: f64,
-    /// A step's corrections stop when the relative change falls below this: 1e-13. Zero or less makes every pass.
+    /// A step's corrections stop when the relative change of position and of velocity, by the root of the mean of squares, falls below this: 1e-13. Zero
+    /// or less makes every pass.
     pub corrector_tol: f64,
-    /// The startup's passes stop when the relative change falls below this: 1e-13. Zero or less makes every pass.
+    /// The startup's passes stop when the relative change of the accelerations, measured likewise, falls below this: 1e-13. Zero or less makes every
+    /// pass.
     pub startup_tol: f64,
     /// The most corrections a step: 2, and at most 100.
     pub max_corrector_iters: u64,
