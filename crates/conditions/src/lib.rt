@@ -43,8 +43,8 @@ fn is_usual(tol: f64, new: f64) -> bool
     false
 }
 
-// Whether a correction from `before` to `after` is below the tolerance, beside the new size. Where the mean squares are not within a factor of
-// two of the tolerance's own square, they tell it, and no root is worked out.
+// Whether a correction from `before` to `after` is below the tolerance, beside the new size. Where the change's mean square is not within a factor
+// of two of the new one's times the tolerance's square, that tells it, and no root is worked out.
 fn is_still(tol: f64, before: Triple, after: Triple) -> bool
     ensures { λ b. ⌜ b ≡ isStill tol before after ⌝ }
 {
