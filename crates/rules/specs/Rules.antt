@@ -1,6 +1,6 @@
 -- Document 01's "Startup" and "Steps and tail" in direct style: the whole integration as one tree of questions. Nothing here knows how a run is
--- kept between two questions. Of `run` it takes the plan and the newest point (records), and formulas that 01 gives in a line each: the loop's tests,
--- where a step or the tail is asked, and what a sample holds.
+-- kept between two questions. It takes the plan and the newest point (records of `plan` and `run`), and formulas that 01 gives in a line each: the loop's
+-- tests (`conditions`), where a step or the tail is asked, and what a sample holds (`run`).
 use Prim.Native.Nat.{ℕ, zero, suc, _+_, _-_}
 use mathlib.Core.Bool.{cond}
 use mathlib.Core.List.{List, [], _∷_}
