@@ -32,7 +32,7 @@ prove_library() {
     library_stamp >$stamp
 }
 
-# Leaves of the library by themselves, for tests/root and bench/, which are proved here or not at all: $probe is their archive.
+# Leaves of the library by themselves, for tests/roots and bench/, which are proved here or not at all: $probe is their archive.
 need_probe() {
     [ -n "$kit" ] || lacks "$kit_wanted"
     mkdir -p target

@@ -1,5 +1,5 @@
 // SPDX-License-Identifier: MIT OR Apache-2.0
-// Leaves of the library for C, one by one: what tests/root and bench/ hold to the processor's own root. Apps link `app`, which has none of
+// Leaves of the library for C, one by one: what tests/roots and bench/ hold to the processor's own root. Apps link `app`, which has none of
 // these names.
 ghost use mathlib.Core.Path.{_≡_};
 ghost use mathlib.Core.Bool.{cond};
