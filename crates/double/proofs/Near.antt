@@ -47,19 +47,15 @@ half-off a b B = go (a / b) (a % b) (div-add-mod' a b) (mod-lt a B) (compare (a 
     go q r e l Ordering·gt c = record { high = omega arith; low = omega arith }
 
 -- ---- the digits that are kept
-more-digits : (z p : ℕ) → 0 < z - p → z ≡ p + (z - p)
-more-digits z p h = omega arith
-
 -- where digits are dropped, all 53 are in use
-full : (n c : ℕ) → 0 < c → 0 < drop 53 n c → 2 ^ 52 ≤ closest n (c * 2 ^ drop 53 n c)
-full n c C K =
-    let k = drop 53 n c in
-    let u = c * 2 ^ k in
-    let a : 2 ^ 52 * 2 ^ k ≤ n / c = le-trans (le-of-eq (sym (pow-add 2 52 k))) (size-reaches (n / c) (52 + k) (less (size (n / c)) k (more-digits (size (n / c)) 53 K))) in
-    le-trans (subst (λ (x : ℕ). 2 ^ 52 ≤ x) (div-div-eq-div-mul n c (2 ^ k)) (le-div-iff-mul-le (pow-pos k) .1 a)) (nearest-ge (n / u) (compare (n % u * 2) u))
+full : (n c k : ℕ) → 0 < c → drop 53 n c ≡ suc k → 2 ^ 52 ≤ closest n (c * 2 ^ suc k)
+full n c k C e =
+    let u = c * 2 ^ suc k in
+    let a : 2 ^ 52 * 2 ^ suc k ≤ n / c = le-trans (le-of-eq (sym (pow-add 2 52 (suc k)))) (size-reaches (n / c) (52 + suc k) (more (size (n / c)) k e)) in
+    le-trans (subst (λ (x : ℕ). 2 ^ 52 ≤ x) (div-div-eq-div-mul n c (2 ^ suc k)) (le-div-iff-mul-le (pow-pos (suc k)) .1 a)) (nearest-ge (n / u) (compare (n % u * 2) u))
   where
-    less : (z k : ℕ) → z ≡ 53 + k → 52 + k < z
-    less z k e = omega arith
+    more : (z k : ℕ) → z - 53 ≡ suc k → 52 + suc k < z
+    more z k e = omega arith
 
 -- ---- in units
 pub record Near (g c n : ℕ) : Type 0 where
@@ -85,9 +81,7 @@ near a c C = go (drop 53 (a * 2 ^ 1074) c) refl
 
     go : (k : ℕ) → drop 53 n c ≡ k → 32 ≤ closest n (c * 2 ^ k) * 2 ^ k → Near (closest n (c * 2 ^ k) * 2 ^ k) c n
     go zero e h = from-half n c (closest n (c * 2 ^ 0)) (2 ^ 0) (le-trans h (le-of-eq (mul-one (closest n (c * 2 ^ 0))))) (off 0)
-    go (suc k) e h =
-        let l : 2 ^ 52 ≤ closest n (c * 2 ^ suc k) = subst (λ (j : ℕ). 2 ^ 52 ≤ closest n (c * 2 ^ j)) e (full n c C (subst (λ (j : ℕ). 0 < j) (sym e) (omega arith))) in
-        from-half n c (closest n (c * 2 ^ suc k)) (2 ^ suc k) (le-trans (lit≤ tt) l) (off (suc k))
+    go (suc k) e h = from-half n c (closest n (c * 2 ^ suc k)) (2 ^ suc k) (le-trans (lit≤ tt) (full n c k C e)) (off (suc k))
 
 -- a fraction of 32 units or more is rounded to 32 or more
 pub large : (a c : ℕ) → 0 < c → 32 * c ≤ a * 2 ^ 1074 → 32 ≤ grid binary64 a c
@@ -101,9 +95,7 @@ large a c C h = go (drop 53 (a * 2 ^ 1074) c) refl
         let b = c * 2 ^ 0 in
         let l : 32 ≤ n / b = le-div-iff-mul-le (mul-pos C (pow-pos 0)) .1 (le-trans (le-of-eq (ap (λ (x : ℕ). 32 * x) (mul-one c))) h) in
         le-trans l (le-trans (nearest-ge (n / b) (compare (n % b * 2) b)) (le-of-eq (sym (mul-one (closest n b)))))
-    go (suc k) e =
-        let l : 2 ^ 52 ≤ closest n (c * 2 ^ suc k) = subst (λ (j : ℕ). 2 ^ 52 ≤ closest n (c * 2 ^ j)) e (full n c C (subst (λ (j : ℕ). 0 < j) (sym e) (omega arith))) in
-        times (closest n (c * 2 ^ suc k)) (2 ^ suc k) l (pow-pos (suc k))
+    go (suc k) e = times (closest n (c * 2 ^ suc k)) (2 ^ suc k) (full n c k C e) (pow-pos (suc k))
       where
         times : (x y : ℕ) → 2 ^ 52 ≤ x → 0 < y → 32 ≤ x * y
         times x y l p = let g : 2 ^ 52 * y ≤ x * y = mul-le-mul-right y l in omega arith

@@ -52,10 +52,7 @@ at-zero (suc f) t e = absurd (omega arith)
 at-suc : (f t : ℕ) → 0 < f → unitsAt f t ≡ (2 ^ 52 + t) * 2 ^ (f - 1)
 unfolding unitsAt
 at-suc zero t e = absurd (omega arith)
-at-suc (suc f) t e = ap (λ (x : ℕ). (2 ^ 52 + t) * 2 ^ x) (less f)
-  where
-    less : (f : ℕ) → f ≡ suc f - 1
-    less f = omega arith
+at-suc (suc f) t e = let p : f ≡ suc f - 1 = omega arith in ap (λ (x : ℕ). (2 ^ 52 + t) * 2 ^ x) p
 
 pub scaled-low : (f t : ℕ) → f ≡ 0 → 0 < t → t < 2 ^ 52 → Scaled (unitsAt f t * 2 ^ 1074) (t * 2 ^ (leadingZeros 64 t - 11) % 2 ^ 64) (1074 - (leadingZeros 64 t - 11))
 scaled-low f t e h l =

@@ -1,7 +1,7 @@
 -- The arithmetic of `narrow_root` and `wide_root`.
 use mathlib.Core.Path.{_≡_, subst}
 use Prim.Native.Nat.{ℕ, zero, suc, _+_, _-_, _*_, _/_, _%_, _^_, _≤_, _<_}
-use native.Mathlib.Nat.{mul-le-mul, mul-le-mul-right, lt-of-mul-lt-mul-right, lt-of-lt-of-le, le-of-suc-le-suc, lt-of-not-le, not-le-of-lt, div-add-mod', mod-lt, div-lt-iff-lt-mul}
+use native.Mathlib.Nat.{mul-le-mul, mul-le-mul-left, mul-le-mul-right, lt-of-mul-lt-mul-right, lt-of-lt-of-le, le-of-suc-le-suc, lt-of-not-le, not-le-of-lt, div-add-mod', mod-lt, div-lt-iff-lt-mul}
 use native.Mathlib.Omega.{arith}
 use Rattle.root.specs.Parts.{Floor}
 
@@ -73,7 +73,7 @@ guessed m a b =
     from : (g : ℕ) → 2 ^ 25 ≤ g → g < 2 ^ 29 → Guessed m g ((g + m / g) / 2)
     from g gl gh =
         let gp : 0 < g = omega arith in
-        let gd : m / g < 2 ^ 29 = div-lt-iff-lt-mul gp .1 (below m g b gl) in
+        let gd : m / g < 2 ^ 29 = div-lt-iff-lt-mul gp .1 (below m (2 ^ 29) (2 ^ 25) g b gl) in
         let kl : 2 ^ 26 ≤ (g + m / g) / 2 = root-le m ((g + m / g) / 2) (2 ^ 26) (newton-above m g gp) a in
         let kp : 0 < (g + m / g) / 2 = omega arith in
         record {
@@ -82,15 +82,12 @@ guessed m a b =
           g-div = gd;
           k-low = kl;
           k-high = omega arith;
-          k-div = div-lt-iff-lt-mul kp .1 (below' m ((g + m / g) / 2) b kl);
+          k-div = div-lt-iff-lt-mul kp .1 (below m (2 ^ 28) (2 ^ 26) ((g + m / g) / 2) b kl);
           reaches = newton-above m ((g + m / g) / 2) kp;
         }
       where
-        below : (m g : ℕ) → m < 2 ^ 54 → 2 ^ 25 ≤ g → m < 2 ^ 29 * g
-        below m g h l = omega arith
-
-        below' : (m k : ℕ) → m < 2 ^ 54 → 2 ^ 26 ≤ k → m < 2 ^ 28 * k
-        below' m k h l = omega arith
+        below : (m c l g : ℕ) → m < c * l → l ≤ g → m < c * g
+        below m c l g h k = lt-of-lt-of-le h (mul-le-mul-left c k)
 
 -- ---- `wide_root`: q and u are the quotient and the remainder of (m - a * a) * 2 ^ 27 by 2 a
 pub record Divided (m a q u : ℕ) : Type 0 where
@@ -157,7 +154,4 @@ floor-less m a q u D h =
 
     down : (s n : ℕ) → s * s + 1 ≤ n + 2 * s → n < s * s → Floor n (s - 1)
     down zero n a b = absurd (omega arith)
-    down (suc p) n a b = subst (λ (x : ℕ). Floor n x) (less p) (at p n (omega arith) b)
-      where
-        less : (p : ℕ) → p ≡ suc p - 1
-        less p = omega arith
+    down (suc p) n a b = let e : p ≡ suc p - 1 = omega arith in subst (λ (x : ℕ). Floor n x) e (at p n (omega arith) b)
