@@ -14,7 +14,7 @@ use Rattle.double.specs.Doubles.{Double}
 use Rattle.double.specs.Units.{inUnits, unitsIn, NotNegative}
 use Rattle.double.proofs.Own.{counted}
 use Rattle.double.proofs.Units.{units-are}
-use Rattle.root.specs.Nearest.{Nearer, IsNearest}
+use Rattle.root.specs.Nearest.{Nearer, NearerThan, IsNearest}
 use Rattle.root.specs.Root.{isqrt, rootOf, rootOfUnits, RootIs, RootOnly}
 use Rattle.root.specs.Parts.{Between, Rounded, unitsOf}
 use Rattle.root.proofs.Isqrt.{isqrt-floor}
@@ -22,7 +22,7 @@ use Rattle.root.proofs.Evening.{Scaled, scaled-low, scaled-high, evened
 use Rattle.root.proofs.Halves.{rounded}
 use Rattle.root.proofs.Rounding.{root-units, root-double}
 use Rattle.root.proofs.Read.{read}
-use Rattle.root.proofs.Neighbours.{nearer}
+use Rattle.root.proofs.Neighbours.{nearer, nearer-than-minus}
 
 -- ---- the root of any number above zero lies between two half-way points
 bracketed : (b : ℕ) → 0 < b → b < 0x7ff0_0000_0000_0000 → (r : ℕ) × Rounded (unitsOf b * 2 ^ 1074) r
@@ -76,11 +76,14 @@ is-nearest m e F =
     record {
       double = double-root x F;
       plus = r .plus;
-      nearest = λ y G N. subst (λ (a : ℕ). Nearer n a (unitsIn y)) (sym (r .units)) (beside n (r .q) (r .k) (r .between) y G N);
+      nearest = λ y G. subst (λ (a : ℕ). NearerThan n a y) (sym (r .units)) (beside n (r .q) (r .k) (r .between) y G);
     }
   where
-    beside : (n q k : ℕ) → Between n q k → (y : Float) → Double y → NotNegative y → Nearer n (q * 2 ^ k) (unitsIn y)
-    beside n q k B (fin false p d) G N =
+    beside : (n q k : ℕ) → Between n q k → (y : Float) → Double y → NearerThan n (q * 2 ^ k) y
+    beside n q k B nan G = tt
+    beside n q k B (inf s) G = tt
+    beside n q k B (fin true p d) G = nearer-than-minus n q k B (inUnits p d)
+    beside n q k B (fin false p d) G =
         let c = counted false p d G in
         subst (λ (a : ℕ). Nearer n (q * 2 ^ k) a) (sym (c .is)) (nearer n q k B p (c .k) (c .digits))
 
@@ -130,4 +133,10 @@ root-only (fin false (suc m) e) r F a =
     let b = is-nearest m e F in
     let x = fin false (suc m) e in
     same-value r (rootOf x) (a .double) (b .double) (a .plus) (b .plus)
-    (one-nearest (inUnits (suc m) e * 2 ^ 1074) (unitsIn r) (unitsIn (rootOf x)) (a .nearest (rootOf x) (b .double) (b .plus)) (b .nearest r (a .double) (a .plus)))
+    (one-nearest n (unitsIn r) (unitsIn (rootOf x)) (in-units (rootOf x) (b .plus) (a .nearest (rootOf x) (b .double))) (in-units r (a .plus) (b .nearest r (a .double))))
+  where
+    n : ℕ
+    n = inUnits (suc m) e * 2 ^ 1074
+
+    in-units : {a : ℕ} (y : Float) → NotNegative y → NearerThan n a y → Nearer n a (unitsIn y)
+    in-units (fin false p d) N h = h

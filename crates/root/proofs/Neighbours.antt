@@ -1,5 +1,5 @@
 -- Beside q * 2 ^ k units the next doubles are 2 ^ k units away, but for the one below 2 ^ 52 * 2 ^ k, which lies on the far side of it from the root:
--- so any other double is further from √n.
+-- so any other double is further from √n. Those with a minus sign are, since √n is more than half of q * 2 ^ k.
 use mathlib.Core.Path.{_≡_, sym, ap, _∙_, subst}
 use mathlib.Core.Logic.{inl, inr}
 use Prim.Native.Nat.{ℕ, suc, _+_, _-_, _*_, _^_, _≤_, _<_}
@@ -8,7 +8,7 @@ use native.Mathlib.Omega.{arith}
 use mathlib.Core.Bool.{Bool, true, false, not}
 use lib.Dec.{T, ltb, ltb→lt, nltb→le}
 use lib.Pow.{pow-add, pow-pos, pow-mono}
-use Rattle.root.specs.Nearest.{Nearer}
+use Rattle.root.specs.Nearest.{Nearer, NearerThanMinus}
 use Rattle.root.specs.Parts.{Between}
 
 -- p * 2 ^ j, with 53 digits in p at most, is any double
@@ -92,3 +92,12 @@ module _ (n q k : ℕ) (B : Between n q k) (p j : ℕ) (few : p < 2 ^ 53) where
 
   pub nearer : Nearer n R Y
   nearer = (up-side, down-side)
+
+pub nearer-than-minus : (n q k : ℕ) → Between n q k → (y : ℕ) → NearerThanMinus n (q * 2 ^ k) y
+nearer-than-minus n q k B y = let g = le-trans (less (q * 2 ^ k) y) (mul-le-mul-right (2 ^ k) (more q (B .low))) in lt-of-le-of-lt (mul-le-mul g g) (B .below)
+  where
+    less : (r y : ℕ) → r - y ≤ r
+    less r y = omega arith
+
+    more : (q : ℕ) → 2 ^ 52 ≤ q → q ≤ 2 * q - 1
+    more q h = omega arith
