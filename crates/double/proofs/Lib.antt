@@ -6,3 +6,4 @@ pub mod Signs
 pub mod Near
 pub mod Units
 pub mod Off
+pub mod Neighbours
