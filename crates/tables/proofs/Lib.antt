@@ -1,3 +1,5 @@
+pub mod Before
 pub mod Rows
 pub mod Every
+pub mod Same
 pub mod Rule

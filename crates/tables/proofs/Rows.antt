@@ -9,7 +9,8 @@ use mathlib.Core.Bool.{Bool, true, false, not}
 use lib.Dec.{T, leb, leb→le, ltb, ltb→lt, nltb→le}
 use lib.ListN.{length, getD, List·getD-eq-default}
 use lib.Ieee.{Float, nan, ofBits, binary64}
-use Rattle.tables.specs.Tables.{aBits, bBits, entry, nine}
+use Rattle.tables.specs.Tables.{nine}
+use Rattle.tables.proofs.Before.{aBits, bBits, entry}
 use Rattle.tables.proofs.Every.{one}
 
 -- a row that is none of the ten

@@ -5,9 +5,9 @@ use Prim.Native.Nat.{ℕ, _-_, _*_, _^_, _<_}
 use mathlib.Core.Bool.{Bool, true, false, _&&_, cond, Bool·beq}
 use lib.Dec.{T, eqb, ltb, leb, eqb→eq, ltb→lt, leb→le}
 use lib.IntN.{ℤ, pos, negsuc, natAbs}
-use lib.Ieee.{Float, nan, inf, fin, neg, ofBits, binary64}
+use lib.Ieee.{Float, nan, inf, fin, neg, round}
 use lib.Ieee.Fits.{and-l, and-r, eq→eqb}
-use Rattle.tables.specs.Tables.{aBits, bBits, entry, aAt, bAt}
+use Rattle.tables.specs.Tables.{aDecimal, bDecimal, nearestDouble, coefficientAt, aAt, bAt}
 use Rattle.tables.specs.Fraction.{Fraction, whole, _⊕_, _⊖_, exact, Within}
 use Rattle.tables.specs.Mirror.{RuleOfA, MirrorB, RuleOfB}
 use Rattle.tables.proofs.Every.{two}
@@ -67,11 +67,12 @@ within→Within x y p q t =
 -- ---- table A
 
 a-test : ℕ → ℕ → Bool
-a-test i k = eqb (entry aBits i k) (entry aBits (8 - i) (8 - k))
+unfolding same
+a-test i k = same (aAt i k) (aAt (8 - i) (8 - k))
 
 pub a-rule : RuleOfA
-unfolding a-test aAt entry aBits
-a-rule i k hi hk = ap (ofBits binary64) (eqb→eq (entry aBits i k) (entry aBits (8 - i) (8 - k)) (two 9 9 a-test tt i k hi hk))
+unfolding a-test aAt coefficientAt nearestDouble aDecimal round
+a-rule i k hi hk = same→eq (aAt i k) (aAt (8 - i) (8 - k)) (two 9 9 a-test tt i k hi hk)
 
 -- ---- table B
 
@@ -83,7 +84,7 @@ b-test i k =
     (same (bAt i k) (neg (bAt (8 - i) (8 - k))))
 
 pub b-rule : RuleOfB
-unfolding b-test bAt entry bBits ofBits neg
+unfolding b-test bAt coefficientAt nearestDouble bDecimal round neg
 b-rule i k hi hk = go (eqb k i) (eqb→eq k i) (λ (e : k ≡ i). eq→eqb e) (two 9 9 b-test tt i k hi hk)
   where
     go : (d : Bool) → (T d → k ≡ i) → (k ≡ i → T d)

@@ -12,6 +12,10 @@ pub record Fraction : Type 0 where
 abbrev pub whole : ℤ → Fraction
 whole z = record { over = z; under = 1 }
 
+infix 70 minus_
+abbrev pub minus_ : Fraction → Fraction
+minus x = record { over = negℤ (x .over); under = x .under }
+
 infixl 6 _⊕_ _⊖_
 abbrev pub _⊕_ : Fraction → Fraction → Fraction
 x ⊕ y = record { over = x .over *ℤ pos (y .under) +ℤ y .over *ℤ pos (x .under); under = x .under * y .under }
@@ -30,3 +34,7 @@ exact (fin false m e) = record { over = pos (m * up e); under = down e }
 pub record Within (x y : Fraction) (p q : ℕ) : Type 0 where
   pub numbers : 0 < (x ⊖ y) .under
   pub near : natAbs ((x ⊖ y) .over) * q ≤ p * (x ⊖ y) .under
+
+-- |x| < |y|, of numbers
+abbrev pub Smaller : Fraction → Fraction → Type 0
+Smaller x y = natAbs (x .over) * y .under < natAbs (y .over) * x .under

@@ -1,53 +1,53 @@
 -- `b_row` hands out the row that its number names, and zeros from row 10 on.
-use mathlib.Core.Path.{sym, ap}
-use Rattle.tables.specs.Tables.{bBits, entry, bAt, bRow}
+use mathlib.Core.Path.{refl, _∙_}
+use Rattle.tables.proofs.Before.{bBits, entry}
 use Rattle.tables.proofs.Rows.{past, empty, shapeOfB}
+use Rattle.tables.proofs.Same.{b-row-was}
 use Rattle.tables.proofs.b_row.Statement.{statement}
 use Rattle.tables.proofs.b_row.Tie as tie
 
 returns : tie.Need-returns
-unfolding bRow bAt entry bBits
-returns c = ap bRow (sym (c .match .keys1))
+unfolding entry bBits
+returns c = b-row-was (c .match .keys1)
 
 returns-2 : tie.Need-returns-2
-unfolding bRow bAt entry bBits
-returns-2 c = ap bRow (sym (c .match .keys2))
+unfolding entry bBits
+returns-2 c = b-row-was (c .match .keys2)
 
 returns-3 : tie.Need-returns-3
-unfolding bRow bAt entry bBits
-returns-3 c = ap bRow (sym (c .match .keys3))
+unfolding entry bBits
+returns-3 c = b-row-was (c .match .keys3)
 
 returns-4 : tie.Need-returns-4
-unfolding bRow bAt entry bBits
-returns-4 c = ap bRow (sym (c .match .keys4))
+unfolding entry bBits
+returns-4 c = b-row-was (c .match .keys4)
 
 returns-5 : tie.Need-returns-5
-unfolding bRow bAt entry bBits
-returns-5 c = ap bRow (sym (c .match .keys5))
+unfolding entry bBits
+returns-5 c = b-row-was (c .match .keys5)
 
 returns-6 : tie.Need-returns-6
-unfolding bRow bAt entry bBits
-returns-6 c = ap bRow (sym (c .match .keys6))
+unfolding entry bBits
+returns-6 c = b-row-was (c .match .keys6)
 
 returns-7 : tie.Need-returns-7
-unfolding bRow bAt entry bBits
-returns-7 c = ap bRow (sym (c .match .keys7))
+unfolding entry bBits
+returns-7 c = b-row-was (c .match .keys7)
 
 returns-8 : tie.Need-returns-8
-unfolding bRow bAt entry bBits
-returns-8 c = ap bRow (sym (c .match .keys8))
+unfolding entry bBits
+returns-8 c = b-row-was (c .match .keys8)
 
 returns-9 : tie.Need-returns-9
-unfolding bRow bAt entry bBits
-returns-9 c = ap bRow (sym (c .match .keys9))
+unfolding entry bBits
+returns-9 c = b-row-was (c .match .keys9)
 
 returns-10 : tie.Need-returns-10
-unfolding bRow bAt entry bBits
-returns-10 c = ap bRow (sym (c .match .keys10))
+unfolding entry bBits
+returns-10 c = b-row-was (c .match .keys10)
 
 returns-11 : tie.Need-returns-11
-unfolding bRow bAt
-returns-11 c = empty shapeOfB (c .before .args .i) (past _ (c .match .rest .0 .0 .0 .0 .0 .0 .0 .0 .0 .1) (c .match .rest .0 .0 .0 .0 .0 .0 .0 .0 .1) (c .match .rest .0 .0 .0 .0 .0 .0 .0 .1) (c .match .rest .0 .0 .0 .0 .0 .0 .1) (c .match .rest .0 .0 .0 .0 .0 .1) (c .match .rest .0 .0 .0 .0 .1) (c .match .rest .0 .0 .0 .1) (c .match .rest .0 .0 .1) (c .match .rest .0 .1) (c .match .rest .1))
+returns-11 c = empty shapeOfB (c .before .args .i) (past _ (c .match .rest .0 .0 .0 .0 .0 .0 .0 .0 .0 .1) (c .match .rest .0 .0 .0 .0 .0 .0 .0 .0 .1) (c .match .rest .0 .0 .0 .0 .0 .0 .0 .1) (c .match .rest .0 .0 .0 .0 .0 .0 .1) (c .match .rest .0 .0 .0 .0 .0 .1) (c .match .rest .0 .0 .0 .0 .1) (c .match .rest .0 .0 .0 .1) (c .match .rest .0 .0 .1) (c .match .rest .0 .1) (c .match .rest .1)) ∙ b-row-was refl
 
 pub b-row-spec : {M : Type 1} → statement M
 b-row-spec =
