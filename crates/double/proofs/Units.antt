@@ -31,10 +31,18 @@ unfolding inUnits
 units-are (fin true m e) n h = absurd (true≢false (h .0))
 units-are (fin false m e) n h = (tt, ap (λ (z : ℕ). z / down e) (h .1) ∙ mul-div-cancel n (down-pos e))
 
--- a double is what its units are rounded to
-pub units-round : (x : Float) (n : ℕ) → Double x → Units x n → round binary64 false n (2 ^ 1074) ≡ x
-units-round (fin true m e) n F h = absurd (true≢false (h .0))
-units-round (fin false m e) n F h = round-same binary64 false n (2 ^ 1074) (m * up e) (down e) (pow-pos 1074) (down-pos e) (sym (h .1)) ∙ own-round false m e F
+-- a double is what its units are rounded to, with its sign
+own-value : (s : Bool) (x : Float) (n : ℕ) → Double x → HasValue x s n (2 ^ 1074) → round binary64 s n (2 ^ 1074) ≡ x
+own-value s nan n F h = absurd h
+own-value s (inf t) n F h = absurd h
+own-value s (fin t m e) n F h =
+    ap (λ (b : Bool). round binary64 b n (2 ^ 1074)) (sym (h .0))
+    ∙ round-same binary64 t n (2 ^ 1074) (m * up e) (down e) (pow-pos 1074) (down-pos e) (sym (h .1))
+    ∙ own-round t m e F
+
+-- so no other double has as many, with that sign
+pub same-value : (s : Bool) (x y : Float) (n : ℕ) → Double x → Double y → HasValue x s n (2 ^ 1074) → HasValue y s n (2 ^ 1074) → x ≡ y
+same-value s x y n F G h k = sym (own-value s x n F h) ∙ own-value s y n G k
 
 -- ---- arithmetic
 pub mul-units : (x y : Float) (a b : ℕ) → Units x a → Units y b → mul binary64 x y ≡ round binary64 false (a * b) (2 ^ 1074 * 2 ^ 1074)
@@ -145,7 +153,7 @@ not-below-rounded a c y b C F h l = go (lt (round binary64 false a c) y) refl
     go : (t : Bool) → lt (round binary64 false a c) y ≡ t → t ≡ false
     go true e =
         absurd (clash y (round binary64 false a c) (units-clear y b h) (round-clear binary64 a c)
-        (subst (λ (z : Float). T (le z (round binary64 false a c))) (units-round y b F h) (round-mono binary64 b (2 ^ 1074) a c (pow-pos 1074) C l)) e)
+        (subst (λ (z : Float). T (le z (round binary64 false a c))) (own-value false y b F h) (round-mono binary64 b (2 ^ 1074) a c (pow-pos 1074) C l)) e)
     go false e = refl
 
 -- so where that is below y, a / c is y at most

@@ -8,12 +8,11 @@ use mathlib.Core.Bool.{Bool, true, false, not}
 use lib.IntN.{ℤ}
 use lib.Count.{leadingZeros}
 use lib.Dec.{T, ltb, ltb→lt, nltb→le}
-use lib.Ieee.{Float, nan, inf, fin, binary64, size, fits, ofBits, toBits}
-use lib.Ieee.Bits.{ofBits-toBits}
+use lib.Ieee.{Float, nan, inf, fin, binary64, fits, toBits}
 use Rattle.double.specs.Doubles.{Double}
 use Rattle.double.specs.Units.{inUnits, unitsIn, NotNegative}
 use Rattle.double.proofs.Own.{counted}
-use Rattle.double.proofs.Units.{units-are}
+use Rattle.double.proofs.Units.{Units, own-units, units-are, same-value}
 use Rattle.root.specs.Nearest.{Nearer, NearerThan, IsNearest}
 use Rattle.root.specs.Root.{isqrt, rootOf, rootOfUnits, RootIs, RootOnly}
 use Rattle.root.specs.Parts.{Between, Rounded, unitsOf}
@@ -97,12 +96,8 @@ root-is (fin true (suc m) e) F = refl
 root-is (fin false (suc m) e) F = is-nearest m e F
 
 -- ---- no other double has it
-same-bits : (a b : Float) → NotNegative a → NotNegative b → unitsIn a ≡ unitsIn b → toBits binary64 a ≡ toBits binary64 b
-unfolding toBits inUnits
-same-bits (fin false m e) (fin false n d) A B p = ap (λ (x : ℕ). 0 + (size x - 53) * 2 ^ 52 + x / 2 ^ (size x - 53)) p
-
-same-value : (a b : Float) → Double a → Double b → NotNegative a → NotNegative b → unitsIn a ≡ unitsIn b → a ≡ b
-same-value a b F G A B p = sym (ofBits-toBits binary64 a F) ∙ ap (λ (x : ℕ). ofBits binary64 x) (same-bits a b A B p) ∙ ofBits-toBits binary64 b G
+same-units : (a b : Float) → Double a → Double b → NotNegative a → NotNegative b → unitsIn a ≡ unitsIn b → a ≡ b
+same-units a b F G A B p = same-value false a b (unitsIn b) F G (subst (Units a) p (own-units a F A)) (own-units b G B)
 
 one-nearest : (n r y : ℕ) → Nearer n r y → Nearer n y r → r ≡ y
 one-nearest n r y f g = go (compared r y)
@@ -132,7 +127,7 @@ root-only (fin true (suc m) e) r F a = a
 root-only (fin false (suc m) e) r F a =
     let b = is-nearest m e F in
     let x = fin false (suc m) e in
-    same-value r (rootOf x) (a .double) (b .double) (a .plus) (b .plus)
+    same-units r (rootOf x) (a .double) (b .double) (a .plus) (b .plus)
     (one-nearest n (unitsIn r) (unitsIn (rootOf x)) (in-units (rootOf x) (b .plus) (a .nearest (rootOf x) (b .double))) (in-units r (a .plus) (b .nearest r (a .double))))
   where
     n : ℕ
