@@ -7,3 +7,6 @@ pub mod Near
 pub mod Units
 pub mod Off
 pub mod Neighbours
+pub mod Apart
+pub mod Decimals
+pub mod Nearest

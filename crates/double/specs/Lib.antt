@@ -1,2 +1,5 @@
 pub mod Doubles
 pub mod Units
+pub mod Fraction
+pub mod Decimal
+pub mod Nearest

@@ -7,8 +7,9 @@ use lib.Dec.{T, eqb, ltb, leb, eqb→eq, ltb→lt, leb→le}
 use lib.IntN.{ℤ, pos, negsuc, natAbs}
 use lib.Ieee.{Float, nan, inf, fin, neg, round}
 use lib.Ieee.Fits.{and-l, and-r, eq→eqb}
-use Rattle.tables.specs.Tables.{aDecimal, bDecimal, nearestDouble, coefficientAt, aAt, bAt}
-use Rattle.tables.specs.Fraction.{Fraction, whole, _⊕_, _⊖_, exact, Within}
+use Rattle.tables.specs.Tables.{aDecimal, bDecimal, coefficientAt, aAt, bAt}
+use Rattle.double.specs.Fraction.{Fraction, whole, _⊕_, _⊖_, exact, Within}
+use Rattle.double.specs.Nearest.{nearestDouble}
 use Rattle.tables.specs.Mirror.{RuleOfA, MirrorB, RuleOfB}
 use Rattle.tables.proofs.Every.{two}
 

@@ -1,46 +1,39 @@
 -- Every coefficient is the same bits as before W-205, in the tables and outside: `a-same-bits`, `b-same-bits`. In the tables it is computed, entry by entry.
 use mathlib.Core.Path.{_≡_, refl, sym, ap, _∙_, fun-ext}
 use mathlib.Core.List.{List}
-use Prim.Native.Nat.{ℕ, suc, _≤_, _<_}
+use Prim.Native.Nat.{ℕ, _≤_, _<_}
 use mathlib.Core.Bool.{Bool, true, false, not, _&&_, cond}
 use lib.Dec.{T, eqb, ltb, eqb→eq, ltb→lt, nltb→le}
-use lib.IntN.{ℤ, pos, negsuc}
+use lib.IntN.{natAbs}
 use lib.Ieee.{Float, binary64, round, fits, ofBits, toBits}
 use lib.Ieee.Bits.{ofBits-toBits}
 use lib.Ieee.Fits.{round-fits}
 use Rattle.double.specs.Doubles.{Double, nought}
-use Rattle.tables.specs.Fraction.{Fraction}
-use Rattle.tables.specs.Tables.{aDecimal, bDecimal, nearestDouble, coefficientAt, aAt, bAt, nine, aRow, bRow}
+use Rattle.double.specs.Fraction.{Fraction}
+use Rattle.double.specs.Nearest.{isNegative, nearestDouble}
+use Rattle.tables.specs.Tables.{aDecimal, bDecimal, coefficientAt, aAt, bAt, nine, aRow, bRow}
 use Rattle.tables.proofs.Before.{aBits, bBits, entry}
 use Rattle.tables.proofs.Every.{every, two}
 use Rattle.tables.proofs.Rows.{Shape, shapeOfA, shapeOfB, below, beside}
 
-pub double-nearest : (x : Fraction) → Double (nearestDouble x)
-unfolding nearestDouble
-double-nearest x = go (x .over)
+double-coefficient : (table : ℕ → ℕ → Fraction) (i k : ℕ) → Double (coefficientAt table i k)
+unfolding coefficientAt nearestDouble fits
+double-coefficient table i k = go (ltb i 10 && ltb k 9)
   where
-    go : (z : ℤ) → Double (nearestDouble (record { over = z; under = x .under }))
-    go (pos n) = round-fits binary64 false n (x .under)
-    go (negsuc n) = round-fits binary64 true (suc n) (x .under)
-
-pub double-coefficient : (decimal : ℕ → ℕ → Fraction) (i k : ℕ) → Double (coefficientAt decimal i k)
-unfolding coefficientAt fits
-double-coefficient decimal i k = go (ltb i 10 && ltb k 9)
-  where
-    go : (b : Bool) → Double (cond b (nearestDouble (decimal i k)) nought)
-    go true = double-nearest (decimal i k)
+    go : (b : Bool) → Double (cond b (nearestDouble (table i k)) nought)
+    go true = round-fits binary64 (isNegative (table i k .over)) (natAbs (table i k .over)) (table i k .under)
     go false = tt
 
 abbrev sameAt : (ℕ → ℕ → Fraction) → List (List ℕ) → ℕ → ℕ → Bool
-sameAt decimal bits i k = eqb (toBits binary64 (nearestDouble (decimal i k))) (entry bits i k)
+sameAt table bits i k = eqb (toBits binary64 (nearestDouble (table i k))) (entry bits i k)
 
-same-bits : (decimal : ℕ → ℕ → Fraction) (bits : List (List ℕ)) → Shape bits → T (every 10 (λ i. every 9 (sameAt decimal bits i))) → (i k : ℕ)
-    → toBits binary64 (coefficientAt decimal i k) ≡ entry bits i k
+same-bits : (table : ℕ → ℕ → Fraction) (bits : List (List ℕ)) → Shape bits → T (every 10 (λ i. every 9 (sameAt table bits i))) → (i k : ℕ)
+    → toBits binary64 (coefficientAt table i k) ≡ entry bits i k
 unfolding coefficientAt toBits
-same-bits decimal bits shape same i k = go (ltb i 10) (ltb k 9) (ltb→lt i 10) (nltb→le i 10) (ltb→lt k 9) (nltb→le k 9)
+same-bits table bits shape same i k = go (ltb i 10) (ltb k 9) (ltb→lt i 10) (nltb→le i 10) (ltb→lt k 9) (nltb→le k 9)
   where
-    go : (p q : Bool) → (T p → i < 10) → (T (not p) → 10 ≤ i) → (T q → k < 9) → (T (not q) → 9 ≤ k) → toBits binary64 (cond (p && q) (nearestDouble (decimal i k)) nought) ≡ entry bits i k
-    go true true h h' l l' = eqb→eq (toBits binary64 (nearestDouble (decimal i k))) (entry bits i k) (two 10 9 (sameAt decimal bits) same i k (h tt) (l tt))
+    go : (p q : Bool) → (T p → i < 10) → (T (not p) → 10 ≤ i) → (T q → k < 9) → (T (not q) → 9 ≤ k) → toBits binary64 (cond (p && q) (nearestDouble (table i k)) nought) ≡ entry bits i k
+    go true true h h' l l' = eqb→eq (toBits binary64 (nearestDouble (table i k))) (entry bits i k) (two 10 9 (sameAt table bits) same i k (h tt) (l tt))
     go true false h h' l l' = beside shape i k (l' tt)
     go false q h h' l l' = below shape i k (h' tt)
 

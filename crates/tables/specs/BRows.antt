@@ -4,8 +4,8 @@ use mathlib.Core.List.{List, [], _∷_}
 use Prim.Native.Nat.{ℕ}
 use lib.IntN.{pos}
 use lib.ListN.{getD}
-use Rattle.tables.specs.Fraction.{Fraction, whole, minus_}
-use Rattle.tables.specs.Decimal.{_e-_, _e+_}
+use Rattle.double.specs.Fraction.{Fraction, whole, minus_}
+use Rattle.double.specs.Decimal.{_e-_, _e+_}
 
 -- row i, column i, for i from 0 to 8
 abbrev pub diagonal : List Fraction

@@ -1,6 +1,5 @@
-pub mod Fraction
-pub mod Decimal
 pub mod ARows
 pub mod BRows
 pub mod Tables
+pub mod Nearest
 pub mod Mirror

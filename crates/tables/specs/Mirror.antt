@@ -6,7 +6,7 @@ use Prim.Native.Nat.{ℕ, _-_, _<_, _^_}
 use lib.IntN.{negsuc}
 use lib.Ieee.{neg}
 use Rattle.tables.specs.Tables.{aAt, bAt}
-use Rattle.tables.specs.Fraction.{whole, _⊕_, exact, Within}
+use Rattle.double.specs.Fraction.{whole, _⊕_, exact, Within}
 
 abbrev pub RuleOfA : Type 0
 RuleOfA = (i k : ℕ) → i < 9 → k < 9 → aAt i k ≡ aAt (8 - i) (8 - k)

@@ -1,14 +1,15 @@
 -- 01, "Tables": "90 values each, copied from the module", ten rows of nine columns, both counted from 0. 02, W-205: "Store rows 4 to 9 of each table and the nine
 -- diagonal values of B; take the other rows from their mirror." (The module's rows -4 to 5 and columns -4 to 4 are 01's 0 to 9 and 0 to 8.)
 use mathlib.Core.List.{List, [], _∷_}
-use Prim.Native.Nat.{ℕ, suc, _-_}
-use mathlib.Core.Bool.{Bool, true, false, _&&_, cond}
+use Prim.Native.Nat.{ℕ, _-_}
+use mathlib.Core.Bool.{_&&_, cond}
 use lib.Dec.{ltb, eqb}
-use lib.IntN.{ℤ, pos, negsuc}
+use lib.IntN.{pos}
 use lib.ListN.{getD}
-use lib.Ieee.{Float, binary64, round}
+use lib.Ieee.{Float}
 use Rattle.double.specs.Doubles.{nought}
-use Rattle.tables.specs.Fraction.{Fraction, whole, minus_}
+use Rattle.double.specs.Fraction.{Fraction, whole, minus_}
+use Rattle.double.specs.Nearest.{nearestDouble}
 use Rattle.tables.specs.ARows.{a4, a5, a6, a7, a8, a9}
 use Rattle.tables.specs.BRows.{onDiagonal, b4, b5, b6, b7, b8, b9}
 
@@ -27,17 +28,9 @@ bDecimal i k =
     let rows = b4 ∷ b5 ∷ b6 ∷ b7 ∷ b8 ∷ b9 ∷ [] in
     cond (ltb i 4) (cond (eqb k i) (onDiagonal i) (minus (storedAt rows (8 - i) (8 - k)))) (storedAt rows i k)
 
--- the f64 nearest to a fraction
-unfoldable pub nearestDouble : Fraction → Float
-nearestDouble x = go (x .over)
-  where
-    go : ℤ → Float
-    go (pos n) = round binary64 false n (x .under)
-    go (negsuc n) = round binary64 true (suc n) (x .under)
-
 -- the coefficient in row i and column k: the f64 nearest to its decimal; outside the table stands 0.0
 unfoldable pub coefficientAt : (ℕ → ℕ → Fraction) → ℕ → ℕ → Float
-coefficientAt decimal i k = cond (ltb i 10 && ltb k 9) (nearestDouble (decimal i k)) nought
+coefficientAt table i k = cond (ltb i 10 && ltb k 9) (nearestDouble (table i k)) nought
 
 unfoldable pub aAt : ℕ → ℕ → Float
 aAt i k = coefficientAt aDecimal i k

@@ -3,7 +3,7 @@ use Prim.Native.Nat.{ℕ, zero, suc, _+_, _*_, _/_, _^_}
 use mathlib.Core.Bool.{Bool, true, false}
 use lib.Dec.{ltb}
 use lib.IntN.{pos}
-use Rattle.tables.specs.Fraction.{Fraction}
+use Rattle.double.specs.Fraction.{Fraction}
 
 -- how many digits of d follow the first, if they are n at most; b says whether d is the first itself
 abbrev pub furtherDigits : ℕ → Bool → ℕ → ℕ
@@ -15,6 +15,7 @@ furtherDigits (suc n) false d = suc (furtherDigits n (ltb (d / 10) 10) (d / 10))
 abbrev pub places : ℕ → ℕ
 places d = furtherDigits d (ltb d 10) d
 
+-- d with that point, times 10 ^ -n; times 10 ^ n
 infix 75 _e-_ _e+_
 abbrev pub _e-_ : ℕ → ℕ → Fraction
 d e- n = record { over = pos d; under = 10 ^ (places d + n) }
