@@ -1,4 +1,4 @@
--- A decimal as the module's text writes it: digits with a point after the first of them, and a power of ten. `3_6433531746031746 e- 3` is 3.6433531746031746e-3.
+-- A decimal as the module's text writes it: digits with a point after the first of them, and a power of ten. `1_004 e- 5` is 1.004e-05. proofs/Decimals.antt has more.
 use Prim.Native.Nat.{ℕ, zero, suc, _+_, _*_, _/_, _^_}
 use mathlib.Core.Bool.{Bool, true, false}
 use lib.Dec.{ltb}
