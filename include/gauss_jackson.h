@@ -60,7 +60,7 @@
  * six is refused (9), so no older caller's memory could be overrun. But one that has more room, kept for many times perhaps, would find its
  * numbers in other places and read an acceleration as a position. So a program built with an older header does not link: "undefined
  * reference to gj_abi_1". */
-#define GJ_VERSION "0.6.0"
+#define GJ_VERSION "0.6.1"
 #define GJ_ABI 2
 
 #ifdef __cplusplus

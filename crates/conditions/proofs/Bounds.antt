@@ -13,7 +13,7 @@ use Rattle.double.specs.Doubles.{Double}
 use Rattle.double.specs.Units.{inUnits, unitsIn, NotNegative}
 use Rattle.double.proofs.Booleans.{both}
 use Rattle.double.proofs.Units.{Units, own-units, lt-units, between}
-use Rattle.double.proofs.Off.{Within, product, total}
+use Rattle.double.proofs.Off.{Roughly, product, total}
 use Rattle.root.specs.Root.{rootOf}
 use Rattle.root.proofs.Nearest.{double-root}
 use Rattle.root.proofs.Squares.{About, root-about}
@@ -61,8 +61,8 @@ pub record Limit (tol q : Float) : Type 0 where
   pub W : ℕ
   pub L : ℕ
   pub are : Units (mul binary64 (mul binary64 q tol) tol) L
-  pub first : Within (W * 2 ^ 1074) (unitsIn q * unitsIn tol)
-  pub second : Within (L * 2 ^ 1074) (W * unitsIn tol)
+  pub first : Roughly (W * 2 ^ 1074) (unitsIn q * unitsIn tol)
+  pub second : Roughly (L * 2 ^ 1074) (W * unitsIn tol)
 
 pub limit : (tol q : Float) → Double tol → Double q → Usual tol q → Limit tol q
 limit tol q F G U =
@@ -96,7 +96,7 @@ pub record Sized (q : Float) : Type 0 where
   pub are : Units (add binary64 (rootOf q) tiny) D
   pub some : 0 < D
   pub x : ℕ
-  pub within : Within D (unitsIn (rootOf q) + x)
+  pub within : Roughly D (unitsIn (rootOf q) + x)
   pub little : 1024 * x ≤ unitsIn (rootOf q)
 
 pub sized : (tol q : Float) → Double q → Usual tol q → Sized q
@@ -106,7 +106,7 @@ sized tol q G U =
     let low : 2 ^ 998 ≤ B = sq-le (2 ^ 998) B (by-17 (2 ^ 998 * 2 ^ 998) (B * B) (16 * (2 ^ 924 * 2 ^ 1074)) (lit≤ tt) (le-trans (mul-le-mul-left 16 (mul-le-mul-right (2 ^ 1074) (U .q-low))) (r .1 .low))) in
     let high : B ≤ 2 ^ 1325 = sq-le B (2 ^ 1325) (by-16 (B * B) (unitsIn q * 2 ^ 1074) (2 ^ 1574 * 2 ^ 1074) (2 ^ 1325 * 2 ^ 1325) (r .1 .high) (mul-le-mul-right (2 ^ 1074) (le-of-lt (U .q-high))) (lit≤ tt)) in
     let d = total (rootOf q) tiny B thirtieth (own-units (rootOf q) (double-root q G) (r .0)) tiny-units (more B thirtieth (le-trans (lit≤ tt) low)) (lt-of-le-of-lt (add-right B (2 ^ 1325) thirtieth high) (lit< tt)) in
-    let w : Within (d .units) (B + thirtieth) = subst (λ (z : ℕ). Within z (B + thirtieth)) (mul-one (d .units)) (d .within) in
+    let w : Roughly (d .units) (B + thirtieth) = subst (λ (z : ℕ). Roughly z (B + thirtieth)) (mul-one (d .units)) (d .within) in
     record {
       plus = r .0;
       about = r .1;

@@ -5,7 +5,7 @@ use native.Mathlib.Nat.{mul-comm, mul-sub, zero-mul}
 use native.Mathlib.Omega.{arith}
 use mathlib.Core.Bool.{Bool, true, false, not, cond, Bool·beq}
 use lib.Dec.{T, ltb, ltb→lt, nltb→le}
-use lib.IntN.{ℤ, pos, negsuc, negℤ, natAbs, subℕ, _+ℤ_, _-ℤ_, _*ℤ_, negℤ-negℤ, negℤ-+ℤ}
+use lib.IntN.{ℤ, pos, negsuc, negℤ, natAbs, _+ℤ_, _-ℤ_, _*ℤ_, negℤ-negℤ, negℤ-+ℤ}
 
 -- n, or -n
 abbrev pub signed : Bool → ℕ → ℤ
@@ -30,19 +30,19 @@ size-neg (pos zero) = refl
 size-neg (pos (suc n)) = refl
 size-neg (negsuc n) = refl
 
-minus-plus : (a b : ℕ) → natAbs (pos a -ℤ pos b) ≡ apart a b
-minus-plus a zero = omega arith
-minus-plus a (suc b) = go (ltb a (suc b)) (ltb→lt a (suc b)) (nltb→le a (suc b))
+size-minus : (a b : ℕ) → natAbs (pos a -ℤ pos b) ≡ apart a b
+size-minus a zero = omega arith
+size-minus a (suc b) = go (ltb a (suc b)) (ltb→lt a (suc b)) (nltb→le a (suc b))
   where
     go : (t : Bool) → (T t → a < suc b) → (T (not t) → suc b ≤ a) → natAbs (cond t (negsuc (suc b - suc a)) (pos (a - suc b))) ≡ apart a (suc b)
     go true f g = let l = f tt in omega arith
     go false f g = let l = g tt in omega arith
 
 size-of-difference : (s t : Bool) (a b : ℕ) → natAbs (signed s a -ℤ signed t b) ≡ gap s t a b
-size-of-difference true true a b = ap natAbs (sym (negℤ-+ℤ (pos a) (negℤ (pos b)))) ∙ size-neg (pos a -ℤ pos b) ∙ minus-plus a b
+size-of-difference true true a b = ap natAbs (sym (negℤ-+ℤ (pos a) (negℤ (pos b)))) ∙ size-neg (pos a -ℤ pos b) ∙ size-minus a b
 size-of-difference true false a b = ap natAbs (sym (negℤ-+ℤ (pos a) (pos b))) ∙ size-neg (pos (a + b))
 size-of-difference false true a b = ap (λ (z : ℤ). natAbs (pos a +ℤ z)) (negℤ-negℤ (pos b))
-size-of-difference false false a b = minus-plus a b
+size-of-difference false false a b = size-minus a b
 
 -- of a / d and b / e, over d * e
 pub size-apart : (s t : Bool) (a d b e : ℕ) → natAbs (signed s a *ℤ pos e -ℤ signed t b *ℤ pos d) ≡ gap s t (a * e) (b * d)

@@ -2,7 +2,7 @@
 use mathlib.Core.Path.{_≡_, refl}
 use Prim.Native.Nat.{_^_}
 use lib.IntN.{pos, negsuc}
-use Rattle.double.specs.Fraction.{Fraction, minus_}
+use Rattle.double.specs.Fraction.{minus_}
 use Rattle.double.specs.Decimal.{_e-_, _e+_}
 
 -- 1.004e-05

@@ -8,7 +8,7 @@ use mathlib.Core.Bool.{Bool, true, false, _&&_}
 use lib.Dec.{T, ltb, leb, ltb→lt, leb→le}
 use lib.IntN.{ℤ, pos, negsuc, natAbs, _-ℤ_, _*ℤ_}
 use lib.Pow.{pow-pos}
-use lib.Ieee.{Float, nan, inf, fin, binary64, up, down, size, round}
+use lib.Ieee.{Float, nan, inf, fin, binary64, up, down, round}
 use lib.Ieee.Exact.{HasValue, units-val}
 use lib.Ieee.Fits.{and-l, and-r, down-pos, round-is, round-fits}
 use lib.Ieee.Order.{drop, kept}
@@ -24,7 +24,7 @@ use Rattle.double.proofs.Units.{same-value}
 
 -- ---- in units
 -- N / c lies between the half-way points beside q * 2 ^ k: (2 q - 1) * 2 ^ k < 2 N / c < (2 q + 1) * 2 ^ k
-record Between (N c q k : ℕ) : Type 0 where
+record BetweenHalves (N c q k : ℕ) : Type 0 where
   pub some : 0 < c
   pub low : 2 ^ 52 ≤ q
   pub below : (2 * q - 1) * 2 ^ k * c < 2 * N
@@ -32,7 +32,7 @@ record Between (N c q k : ℕ) : Type 0 where
   pub edge : 2 ^ 52 * 2 ^ k * c ≤ N
 
 -- p * 2 ^ j, with 53 digits in p at most, is any double
-module _ (N c q k : ℕ) (B : Between N c q k) (p j : ℕ) (few : p < 2 ^ 53) where
+module _ (N c q k : ℕ) (B : BetweenHalves N c q k) (p j : ℕ) (few : p < 2 ^ 53) where
   abbrev X : ℕ
   X = q * 2 ^ k
 
@@ -116,12 +116,12 @@ exact-is : (s : Bool) (m : ℕ) (e : ℤ) → exact (fin s m e) ≡ record { ove
 exact-is true m e = refl
 exact-is false m e = refl
 
-module _ (s : Bool) (n c q k : ℕ) (B : Between (n * 2 ^ 1074) c q k) where
-  abbrev number : Fraction
-  number = record { over = signed s n; under = c }
+module _ (s : Bool) (n c q k : ℕ) (B : BetweenHalves (n * 2 ^ 1074) c q k) where
+  abbrev fraction : Fraction
+  fraction = record { over = signed s n; under = c }
 
   further : (m : ℕ) (e : ℤ) → Double (fin s m e) → m * up e * 2 ^ 1074 ≡ q * 2 ^ k * down e → (y : Float) → Double y → IsNumber y → y ≢ fin s m e
-      → Smaller (exact (fin s m e) ⊖ number) (exact y ⊖ number)
+      → Smaller (exact (fin s m e) ⊖ fraction) (exact y ⊖ fraction)
   further m e F h nan G I other = absurd (lt-irrefl 0 I)
   further m e F h (inf t) G I other = absurd (lt-irrefl 0 I)
   further m e F h (fin t p f) G I other =
@@ -130,16 +130,16 @@ module _ (s : Bool) (n c q k : ℕ) (B : Between (n * 2 ^ 1074) c q k) where
       let g =
       from-units s t (2 ^ 1074) (m * up e) (down e) (p * up f) (down f) n c (q * 2 ^ k) (p * 2 ^ y .k) (down-pos e) (down-pos f) (B .some) h Y
       (nearer (n * 2 ^ 1074) c q k B p (y .k) (y .digits) s t (λ r v. other (same-value s (fin t p f) (fin s m e) (q * 2 ^ k) G F (r, Y ∙ ap (λ (z : ℕ). z * down f) v) (refl, h)))) in
-      subst (λ (x : Fraction). Smaller (x ⊖ number) (exact (fin t p f) ⊖ number)) (sym (exact-is s m e))
-      (subst (λ (x : Fraction). Smaller (record { over = signed s (m * up e); under = down e } ⊖ number) (x ⊖ number)) (sym (exact-is t p f))
+      subst (λ (x : Fraction). Smaller (x ⊖ fraction) (exact (fin t p f) ⊖ fraction)) (sym (exact-is s m e))
+      (subst (λ (x : Fraction). Smaller (record { over = signed s (m * up e); under = down e } ⊖ fraction) (x ⊖ fraction)) (sym (exact-is t p f))
       (subst (λ (z : ℕ). z * (down f * c) < natAbs (signed t (p * up f) *ℤ pos c -ℤ signed s n *ℤ pos (down f)) * (down e * c)) (sym (size-apart s s (m * up e) (down e) n c))
       (subst (λ (z : ℕ). gap s s (m * up e * c) (n * down e) * (down f * c) < z * (down e * c)) (sym (size-apart t s (p * up f) (down f) n c)) g)))
 
-  is-nearest : (x : Float) → Double x → HasValue x s (q * 2 ^ k) (2 ^ 1074) → IsNearestTo number x
+  is-nearest : (x : Float) → Double x → HasValue x s (q * 2 ^ k) (2 ^ 1074) → IsNearestTo fraction x
   is-nearest nan F h = absurd h
   is-nearest (inf t) F h = absurd h
   is-nearest (fin t m e) F h =
-      subst (IsNearestTo number) (ap (λ (b : Bool). fin b m e) (sym (h .0)))
+      subst (IsNearestTo fraction) (ap (λ (b : Bool). fin b m e) (sym (h .0)))
       (record {
         double = subst (λ (b : Bool). Double (fin b m e)) (h .0) F;
         number = subst (λ (x : Fraction). 0 < x .under) (sym (exact-is s m e)) (down-pos e);
@@ -147,12 +147,12 @@ module _ (s : Bool) (n c q k : ℕ) (B : Between (n * 2 ^ 1074) c q k) where
       })
 
 -- ---- of what is rounded
-unfoldable pub isBetween : ℕ → ℕ → ℕ → ℕ → Bool
-isBetween N c q k = ltb 0 c && (leb (2 ^ 52) q && (ltb ((2 * q - 1) * 2 ^ k * c) (2 * N) && (ltb (2 * N) ((2 * q + 1) * 2 ^ k * c) && leb (2 ^ 52 * 2 ^ k * c) N)))
+unfoldable pub isBetweenHalves : ℕ → ℕ → ℕ → ℕ → Bool
+isBetweenHalves N c q k = ltb 0 c && (leb (2 ^ 52) q && (ltb ((2 * q - 1) * 2 ^ k * c) (2 * N) && (ltb (2 * N) ((2 * q + 1) * 2 ^ k * c) && leb (2 ^ 52 * 2 ^ k * c) N)))
 
-isBetween→Between : (N c q k : ℕ) → T (isBetween N c q k) → Between N c q k
-unfolding isBetween
-isBetween→Between N c q k t =
+from-test : (N c q k : ℕ) → T (isBetweenHalves N c q k) → BetweenHalves N c q k
+unfolding isBetweenHalves
+from-test N c q k t =
     let b1 = ltb 0 c in
     let b2 = leb (2 ^ 52) q in
     let b3 = ltb ((2 * q - 1) * 2 ^ k * c) (2 * N) in
@@ -171,7 +171,7 @@ isBetween→Between N c q k t =
 
 -- n / c has all 53 digits of a double and more, is not half-way between two, and rounds to a number
 unfoldable pub isNoTie : ℕ → ℕ → Bool
-isNoTie n c = isBetween (n * 2 ^ 1074) c (kept 53 (n * 2 ^ 1074) c) (drop 53 (n * 2 ^ 1074) c) && ltb (grid binary64 n c) (overflow binary64)
+isNoTie n c = isBetweenHalves (n * 2 ^ 1074) c (kept 53 (n * 2 ^ 1074) c) (drop 53 (n * 2 ^ 1074) c) && ltb (grid binary64 n c) (overflow binary64)
 
 rounded : (s : Bool) (n c : ℕ) → T (isNoTie n c) → IsNearestTo (record { over = signed s n; under = c }) (round binary64 s n c)
 unfolding isNoTie
@@ -179,9 +179,9 @@ rounded s n c t =
     let N = n * 2 ^ 1074 in
     let q = kept 53 N c in
     let k = drop 53 N c in
-    let a = isBetween N c q k in
+    let a = isBetweenHalves N c q k in
     let b = ltb (q * 2 ^ k) (overflow binary64) in
-    is-nearest s n c q k (isBetween→Between N c q k (and-l a b t)) (round binary64 s n c) (round-fits binary64 s n c)
+    is-nearest s n c q k (from-test N c q k (and-l a b t)) (round binary64 s n c) (round-fits binary64 s n c)
     (subst (λ (x : Float). HasValue x s (q * 2 ^ k) (2 ^ 1074)) (sym (round-is binary64 s n c)) (units-val binary64 s q k (ltb→lt (q * 2 ^ k) (overflow binary64) (and-r a b t))))
 
 pub nearest-double : (x : Fraction) → T (isNoTie (natAbs (x .over)) (x .under)) → IsNearestTo x (nearestDouble x)

@@ -25,17 +25,17 @@ pub rounded-near : (a c : ℕ) → 0 < c → 32 * c ≤ a * 2 ^ 1074 → a * 2 ^
 rounded-near a c C l h = let n = near a c C (large a c C l) in (round-val binary64 a c (few (grid binary64 a c) c (a * 2 ^ 1074) (n .high) h), n)
 
 -- ---- in units
-pub record Within (x y : ℕ) : Type 0 where
+pub record Roughly (x y : ℕ) : Type 0 where
   pub high : 63 * x ≤ 64 * y
   pub low : 64 * y ≤ 65 * x
 
 pub record Comes (x : Float) (k y : ℕ) : Type 0 where
   pub units : ℕ
   pub are : Units x units
-  pub within : Within (units * k) y
+  pub within : Roughly (units * k) y
 
 -- Near, with a factor u gone from both sides
-without : (g k y u : ℕ) → 0 < u → Near g (k * u) (y * u) → Within (g * k) y
+without : (g k y u : ℕ) → 0 < u → Near g (k * u) (y * u) → Roughly (g * k) y
 without g k y u U n = record {
   high = le-of-mul-le-mul-right (le-trans (le-of-eq (left 63 g k u)) (le-trans (n .high) (le-of-eq (right 64 y u)))) U;
   low = le-of-mul-le-mul-right (le-trans (le-of-eq (sym (right 64 y u))) (le-trans (n .low) (le-of-eq (sym (left 65 g k u))))) U;

@@ -9,7 +9,7 @@ use borrow.Author.Tests.{lt-ltb}
 use Rattle.double.specs.Doubles.{nought}
 use Rattle.double.specs.Fraction.{Fraction}
 use Rattle.double.specs.Nearest.{nearestDouble, IsNearestTo}
-use Rattle.double.proofs.Nearest.{isBetween, isNoTie, nearest-double}
+use Rattle.double.proofs.Nearest.{isBetweenHalves, isNoTie, nearest-double}
 use Rattle.tables.specs.Tables.{aDecimal, bDecimal, coefficientAt, aAt, bAt}
 use Rattle.tables.specs.Nearest.{NearestOfA, NearestOfB}
 use Rattle.tables.proofs.Every.{every, two}
@@ -27,9 +27,9 @@ nearest-at table t i k hi hk =
     within p q h l = cc
 
 pub a-nearest : NearestOfA
-unfolding aAt aDecimal isNoTie isBetween size
+unfolding aAt aDecimal isNoTie isBetweenHalves size
 a-nearest = nearest-at aDecimal tt
 
 pub b-nearest : NearestOfB
-unfolding bAt bDecimal isNoTie isBetween size
+unfolding bAt bDecimal isNoTie isBetweenHalves size
 b-nearest = nearest-at bDecimal tt

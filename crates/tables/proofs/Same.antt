@@ -1,5 +1,5 @@
 -- Every coefficient is the same bits as before W-205, in the tables and outside: `a-same-bits`, `b-same-bits`. In the tables it is computed, entry by entry.
-use mathlib.Core.Path.{_≡_, refl, sym, ap, _∙_, fun-ext}
+use mathlib.Core.Path.{_≡_, sym, ap, _∙_, fun-ext}
 use mathlib.Core.List.{List}
 use Prim.Native.Nat.{ℕ, _≤_, _<_}
 use mathlib.Core.Bool.{Bool, true, false, not, _&&_, cond}

@@ -1,5 +1,5 @@
 -- 02, W-205: "Store rows 4 to 9 of each table and the nine diagonal values of B": those of table B, summed Adams, what the velocity takes of each acceleration. They
--- are the module's decimals, in the order of src/b_rows.rt. Rows and columns are counted from 0, as in 01.
+-- are the module's decimals, in the order of src/b_rows.rt; `_` stands where the point does. Rows and columns are counted from 0, as in 01.
 use mathlib.Core.List.{List, [], _∷_}
 use Prim.Native.Nat.{ℕ}
 use lib.IntN.{pos}
