@@ -5,20 +5,20 @@ use lib.Dec.{ltb}
 use lib.IntN.{pos}
 use Rattle.double.specs.Fraction.{Fraction}
 
--- how many digits of d follow the first, if they are n at most; b says whether d is the first itself
+-- how many digits follow the first, if they are n at most; b says whether there is the first alone
 abbrev pub furtherDigits : ℕ → Bool → ℕ → ℕ
-furtherDigits zero b d = 0
-furtherDigits (suc n) true d = 0
-furtherDigits (suc n) false d = suc (furtherDigits n (ltb (d / 10) 10) (d / 10))
+furtherDigits zero b digits = 0
+furtherDigits (suc n) true digits = 0
+furtherDigits (suc n) false digits = suc (furtherDigits n (ltb (digits / 10) 10) (digits / 10))
 
--- how many digits of d stand after the point
+-- how many stand after the point
 abbrev pub places : ℕ → ℕ
-places d = furtherDigits d (ltb d 10) d
+places digits = furtherDigits digits (ltb digits 10) digits
 
--- d with that point, times 10 ^ -n; times 10 ^ n
+-- the digits with that point, times 10 ^ -n; times 10 ^ n
 infix 75 _e-_ _e+_
 abbrev pub _e-_ : ℕ → ℕ → Fraction
-d e- n = record { over = pos d; under = 10 ^ (places d + n) }
+digits e- n = record { over = pos digits; under = 10 ^ (places digits + n) }
 
 abbrev pub _e+_ : ℕ → ℕ → Fraction
-d e+ n = record { over = pos (d * 10 ^ n); under = 10 ^ places d }
+digits e+ n = record { over = pos (digits * 10 ^ n); under = 10 ^ places digits }
