@@ -5,6 +5,7 @@ pub mod Nans
 pub mod Signs
 pub mod Near
 pub mod Units
+pub mod Patterns
 pub mod Off
 pub mod Neighbours
 pub mod Apart

@@ -1,16 +1,14 @@
 -- `rootOf` is what specs/Nearest.antt says of it, and nothing else is.
 use mathlib.Core.Path.{_≡_, refl, sym, subst}
-use mathlib.Core.Logic.{_⊎_, inl, inr}
-use Prim.Native.Nat.{ℕ, zero, suc, _+_, _-_, _*_, _/_, _%_, _^_, _<_, _≤_}
-use native.Mathlib.Nat.{eq-or-lt-of-le}
+use Prim.Native.Nat.{ℕ, zero, suc, _+_, _-_, _*_, _/_, _%_, _^_, _<_, compare, Ordering, Ordering·lt, Ordering·eq, Ordering·gt}
 use native.Mathlib.Omega.{arith}
-use mathlib.Core.Bool.{Bool, true, false, not}
+use mathlib.Core.Bool.{true, false}
 use lib.IntN.{ℤ}
 use lib.Count.{leadingZeros}
-use lib.Dec.{T, ltb, ltb→lt, nltb→le}
 use lib.Ieee.{Float, nan, inf, fin, binary64, fits, toBits}
 use Rattle.double.specs.Doubles.{Double}
 use Rattle.double.specs.Units.{inUnits, unitsIn, NotNegative}
+use Rattle.double.proofs.Near.{Cmp, cmp}
 use Rattle.double.proofs.Own.{counted}
 use Rattle.double.proofs.Units.{Units, own-units, units-are, same-value}
 use Rattle.root.specs.Nearest.{Nearer, NearerThan, IsNearest}
@@ -100,22 +98,15 @@ same-units : (a b : Float) → Double a → Double b → NotNegative a → NotNe
 same-units a b F G A B p = same-value false a b (unitsIn b) F G (subst (Units a) p (own-units a F A)) (own-units b G B)
 
 one-nearest : (n r y : ℕ) → Nearer n r y → Nearer n y r → r ≡ y
-one-nearest n r y f g = go (compared r y)
+one-nearest n r y f g = go (compare r y) (cmp r y)
   where
     clash : (r y : ℕ) → 4 * n < (r + y) * (r + y) → (y + r) * (y + r) < 4 * n → ⊥
     clash r y a b = omega arith
 
-    compared : (r y : ℕ) → (r ≡ y) ⊎ (r < y) ⊎ (y < r)
-    compared r y = pick (ltb y r) (ltb→lt y r) (nltb→le y r)
-      where
-        pick : (b : Bool) → (T b → y < r) → (T (not b) → r ≤ y) → (r ≡ y) ⊎ (r < y) ⊎ (y < r)
-        pick true a c = inr (inr (a tt))
-        pick false a c = elim (eq-or-lt-of-le (c tt)) [ inl e ↦ inl e | inr l ↦ inr (inl l) ]
-
-    go : (r ≡ y) ⊎ (r < y) ⊎ (y < r) → r ≡ y
-    go (inl e) = e
-    go (inr (inl l)) = absurd (clash r y (f .0 l) (g .1 l))
-    go (inr (inr l)) = absurd (clash y r (g .0 l) (f .1 l))
+    go : (o : Ordering) → Cmp o r y → r ≡ y
+    go Ordering·lt l = absurd (clash r y (f .0 l) (g .1 l))
+    go Ordering·eq e = e
+    go Ordering·gt l = absurd (clash y r (g .0 l) (f .1 l))
 
 pub root-only : RootOnly
 unfolding rootOf

@@ -8,7 +8,8 @@ use lib.Dec.{T}
 use lib.Pow.{pow-pos}
 use lib.Ieee.{Float, fin, binary64, up, down, size, isNan, nanBits, ofBits, toBits}
 use lib.Ieee.Fits.{down-pos}
-use lib.Ieee.Bits.{ofBits-toBits, nanBits-is}
+use lib.Ieee.Bits.{nanBits-is}
+use Rattle.double.proofs.Patterns.{read-back}
 use Rattle.double.proofs.Units.{Units}
 use Rattle.root.specs.Root.{rootOfUnits}
 use Rattle.root.specs.Parts.{Rounded}
@@ -31,7 +32,7 @@ written n r R =
     let k = R .k in
     let b : toBits binary64 (rootOfUnits n) ≡ r =
     bits-of-units (rootOfUnits n) (q * 2 ^ k) (root-units n q k (R .between)) ∙ ap (λ (x : ℕ). x * 2 ^ 52 + q * 2 ^ k / 2 ^ x) (root-digits n q k (R .between)) ∙ ap (λ (x : ℕ). k * 2 ^ 52 + x) (mul-div-cancel q (pow-pos k)) ∙ sym (R .is) in
-    ap (λ (x : ℕ). ofBits binary64 x) (sym b) ∙ ofBits-toBits binary64 (rootOfUnits n) (root-double n)
+    read-back (rootOfUnits n) r (root-double n) b
 
 pub no-nan : (n r : ℕ) → Rounded n r → T (not (nanBits binary64 r))
 unfolding isNan

@@ -5,12 +5,12 @@ use Prim.Native.Nat.{ℕ, _≤_, _<_}
 use mathlib.Core.Bool.{Bool, true, false, not, _&&_, cond}
 use lib.Dec.{T, eqb, ltb, eqb→eq, ltb→lt, nltb→le}
 use lib.IntN.{natAbs}
-use lib.Ieee.{Float, binary64, round, fits, ofBits, toBits}
-use lib.Ieee.Bits.{ofBits-toBits}
+use lib.Ieee.{binary64, round, fits, ofBits, toBits}
 use lib.Ieee.Fits.{round-fits}
 use Rattle.double.specs.Doubles.{Double, nought}
 use Rattle.double.specs.Fraction.{Fraction}
 use Rattle.double.specs.Nearest.{isNegative, nearestDouble}
+use Rattle.double.proofs.Patterns.{read-back}
 use Rattle.tables.specs.Tables.{aDecimal, bDecimal, coefficientAt, aAt, bAt, nine, aRow, bRow}
 use Rattle.tables.proofs.Before.{aBits, bBits, entry}
 use Rattle.tables.proofs.Every.{every, two}
@@ -23,6 +23,14 @@ double-coefficient table i k = go (ltb i 10 && ltb k 9)
     go : (b : Bool) → Double (cond b (nearestDouble (table i k)) nought)
     go true = round-fits binary64 (isNegative (table i k .over)) (natAbs (table i k .over)) (table i k .under)
     go false = tt
+
+pub a-double : (i k : ℕ) → Double (aAt i k)
+unfolding aAt
+a-double = double-coefficient aDecimal
+
+pub b-double : (i k : ℕ) → Double (bAt i k)
+unfolding bAt
+b-double = double-coefficient bDecimal
 
 abbrev sameAt : (ℕ → ℕ → Fraction) → List (List ℕ) → ℕ → ℕ → Bool
 sameAt table bits i k = eqb (toBits binary64 (nearestDouble (table i k))) (entry bits i k)
@@ -46,16 +54,11 @@ unfolding bAt bDecimal nearestDouble round toBits entry bBits
 b-same-bits i k = same-bits bDecimal bBits shapeOfB tt i k
 
 -- so a coefficient is what its pattern stands for, as it was defined before
-read-back : (x : Float) (b : ℕ) → Double x → toBits binary64 x ≡ b → ofBits binary64 b ≡ x
-read-back x b F e = ap (ofBits binary64) (sym e) ∙ ofBits-toBits binary64 x F
-
 pub a-was : (i k : ℕ) → ofBits binary64 (entry aBits i k) ≡ aAt i k
-unfolding aAt
-a-was i k = read-back (aAt i k) (entry aBits i k) (double-coefficient aDecimal i k) (a-same-bits i k)
+a-was i k = read-back (aAt i k) (entry aBits i k) (a-double i k) (a-same-bits i k)
 
 pub b-was : (i k : ℕ) → ofBits binary64 (entry bBits i k) ≡ bAt i k
-unfolding bAt
-b-was i k = read-back (bAt i k) (entry bBits i k) (double-coefficient bDecimal i k) (b-same-bits i k)
+b-was i k = read-back (bAt i k) (entry bBits i k) (b-double i k) (b-same-bits i k)
 
 -- and a row what its nine patterns stand for
 pub a-row-was : {n i : ℕ} → i ≡ n → nine (λ k. ofBits binary64 (entry aBits n k)) ≡ aRow i
