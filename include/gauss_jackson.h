@@ -53,14 +53,14 @@
 
 /* The version, and the number of what is laid down between header and library: it goes up when a size, a place or a call changes. Each is
  * set here alone. Calls that are added change nothing for programs built before, so the number stays; a program that uses one does not
- * link with an older library: "undefined reference to gj_store". A refusal that is added is a number for which an older header has no name:
- * 12, from 0.4.0 on.
+ * link with an older library: "undefined reference to gj_store", or to gj_forecast, from 0.7.0 on. A refusal that is added is a number for which
+ * an older header has no name: 12, from 0.4.0 on; 13 and 14, from 0.7.0 on, which only the calls of that version give.
  *
  * GJ_ABI is 2 from 0.5.0 on: an interpolation tells the acceleration too, GJ_BETWEEN_NUMBERS a time, nine where they were six. An output of
  * six is refused (9), so no older caller's memory could be overrun. But one that has more room, kept for many times perhaps, would find its
  * numbers in other places and read an acceleration as a position. So a program built with an older header does not link: "undefined
  * reference to gj_abi_1". */
-#define GJ_VERSION "0.6.1"
+#define GJ_VERSION "0.7.0"
 #define GJ_ABI 2
 
 #ifdef __cplusplus
@@ -94,7 +94,10 @@ enum {
     GJ_STORED_SHAPE = 10,         /* storing: the buffer has not GJ_STORED_SIZE bytes; untouched. Loading: not GJ_STORED_SIZE bytes, or a
                                      block's number or check is wrong: cut short, damaged, another file; the run is as it was */
     GJ_STORED_CONTENT = 11,       /* loading: whole blocks, but another form number, or what no run is; the run is as it was */
-    GJ_BLANK_DATE = 12            /* start: t0, tf or the step is a NaN or an infinity; no run, no sample */
+    GJ_BLANK_DATE = 12,           /* start: t0, tf or the step is a NaN or an infinity; no run, no sample */
+    GJ_NOT_WHOLE = 13,            /* whole-second start or forecast: t0, tf or the step is no whole number, or beyond GJ_FARTHEST, or the step's
+                                     size not from 1 to GJ_LONGEST_STEP; no run, no sample */
+    GJ_TOO_FEW_STEPS = 14         /* whole-second start or forecast: max_steps is below the steps that the run takes; no run, no sample */
 };
 
 /* Limits of the settings. */
@@ -102,6 +105,10 @@ enum {
     GJ_MAX_PASSES = 100,     /* for max_corrector_iters and for max_startup_iters */
     GJ_MAX_STEPS = 1000000   /* for max_steps */
 };
+
+/* Bounds of the whole-second profile, themselves within. */
+#define GJ_FARTHEST 1125899906842624.0  /* 2^50: for t0 and tf, in size */
+#define GJ_LONGEST_STEP 1000000000.0    /* 10^9: for the step, in size; the shortest is 1 */
 
 enum {
     GJ_SAMPLE_NUMBERS = 10,   /* t, r.x r.y r.z, v.x v.y v.z, a.x a.y a.z */
@@ -146,7 +153,7 @@ typedef struct gj_reply {
     uint64_t steps;          /* steps made */
     uint64_t startup_iters;  /* startup passes made */
     uint32_t kind;           /* GJ_ASK, GJ_DONE or GJ_REFUSED */
-    uint16_t refusal;        /* 1 to 12, by the names above */
+    uint16_t refusal;        /* 1 to 14, by the names above */
     uint16_t number;         /* the question's number: answer under it; after 65,535 comes 0 */
 } gj_reply;
 GJ_SIZE(gj_reply, 88);
@@ -160,6 +167,39 @@ GJ_AT(gj_reply, kind, 80);
 GJ_AT(gj_reply, refusal, 84);
 GJ_AT(gj_reply, number, 86);
 
+/* What a run of whole numbers takes, known before it is begun. */
+typedef struct gj_cost {
+    uint64_t steps;    /* steps that it makes */
+    uint64_t samples;  /* room that every answer must bring, in samples: steps + 1; 0 where no samples are wanted */
+    uint64_t numbers;  /* the same room in numbers, GJ_SAMPLE_NUMBERS a sample: the `count` of gj_answer */
+    uint64_t least;    /* answers that it accepts, at least */
+    uint64_t most;     /* and at most; met exactly where both tolerances are zero or less */
+} gj_cost;
+GJ_SIZE(gj_cost, 40);
+GJ_AT(gj_cost, steps, 0);
+GJ_AT(gj_cost, samples, 8);
+GJ_AT(gj_cost, numbers, 16);
+GJ_AT(gj_cost, least, 24);
+GJ_AT(gj_cost, most, 32);
+
+/* A forecast. */
+typedef struct gj_cost_reply {
+    gj_cost cost;      /* all zero with a refusal */
+    uint32_t refusal;  /* 0, or 5, 12, 13, 1 or 14 */
+} gj_cost_reply;
+GJ_SIZE(gj_cost_reply, 48);
+GJ_AT(gj_cost_reply, cost, 0);
+GJ_AT(gj_cost_reply, refusal, 40);
+
+/* What a whole-second start tells: what a plain start tells, and the cost. */
+typedef struct gj_whole_reply {
+    gj_reply reply;
+    gj_cost cost;  /* all zero with a refusal */
+} gj_whole_reply;
+GJ_SIZE(gj_whole_reply, 128);
+GJ_AT(gj_whole_reply, reply, 0);
+GJ_AT(gj_whole_reply, cost, 88);
+
 #include "gauss_jackson_run.h" /* gj_run: 1,056 bytes of plain data */
 
 /* The module's values: one-minute steps, no samples. */
@@ -168,6 +208,19 @@ gj_settings gj_default_settings(void);
 /* A start: question 0, or refusal 5, 12 or 1, in this order. `run` is the caller's and need not be set before; it is written whole. */
 gj_reply gj_start(gj_run *run, gj_settings settings, double t0, double tf, gj_triple r0, gj_triple v0);
 
+/* The whole-second profile: where t0, tf and the step are whole numbers (-0.0 is one), t0 and tf at most GJ_FARTHEST in size, the step from 1 to
+ * GJ_LONGEST_STEP, the cost of a run is known beforehand, and what is accepted always finishes: at tf exactly, in cost.steps steps, after
+ * cost.least to cost.most answers, whatever the force says, if every answer is under the question's number and brings room for
+ * cost.numbers numbers.
+ *
+ * The cost alone, without a run: what an app shows beside its button. Refusals 5, 12, 13, 1, 14, in this order: those that gj_start_whole would
+ * give to the same values. */
+gj_cost_reply gj_forecast(gj_settings settings, double t0, double tf);
+
+/* A start in this profile: question 0 and the cost, or refusal 5, 12, 13, 1 or 14, in this order. *run is then what gj_start makes it: the same run
+ * with the same questions, or an ended one. A plain start takes every start that this one takes. */
+gj_whole_reply gj_start_whole(gj_run *run, gj_settings settings, double t0, double tf, gj_triple r0, gj_triple v0);
+
 /* The answer to question `number`: the acceleration `a` at the question's time, position and velocity. The run moves on
  * where it stands. Refusals 7, 8, 6, 2, judged in this order. An answer exactly 65,536 questions late has the open question's number and
  * is not noticed.
@@ -175,7 +228,7 @@ gj_reply gj_start(gj_run *run, gj_settings settings, double t0, double tf, gj_tr
  * `out` is the sample buffer, `count` its numbers; it is the caller's, lent for the call. With samples, sample n goes to
  * numbers 10n to 10n+9 of it (counted from `out` at every call), and nothing else of it is written. Samples 0 to 4 come with the
  * last answer of the startup, then one a step: a run of K steps fills K+1 samples, so 10(K+1) numbers are enough. For
- * whole-number times K is the span over the step, rounded up. Numbers written by earlier calls are never read. */
+ * whole-number times K is the span over the step, rounded up: gj_forecast tells it. Numbers written by earlier calls are never read. */
 gj_reply gj_answer(gj_run *run, uint16_t number, gj_triple a, double *out, size_t count);
 
 /* The question that the run waits for, once more, or refusal 7. The run is only read. */

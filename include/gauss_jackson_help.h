@@ -36,6 +36,8 @@ static inline const char *gj_refusal_text(unsigned refusal) {
     case GJ_STORED_SHAPE: return "there are not 2,048 bytes, or a block's number or check is wrong: cut short, damaged, or no stored run";
     case GJ_STORED_CONTENT: return "the blocks are whole, but hold no run: another form number, or what no run has";
     case GJ_BLANK_DATE: return "the start, the end or the step is not a finite number; look at the dates that went in";
+    case GJ_NOT_WHOLE: return "the start, the end or the step is no whole number, or beyond the bounds of a whole-second start";
+    case GJ_TOO_FEW_STEPS: return "max_steps is below the steps that the run takes; a larger max_steps or a longer step would do";
     default: return "no refusal has this number";
     }
 }

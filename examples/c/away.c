@@ -39,7 +39,7 @@ static gj_reply answer(gj_run *run, gj_reply question) { return gj_answer(run, q
 
 static int put_away(long answers, const char *path) {
     gj_run run;
-    gj_reply reply = start_day(&run, 0);
+    gj_reply reply = start_day(&run, 0).reply;
     for (; answers > 0 && reply.kind == GJ_ASK; answers--) reply = answer(&run, reply);
     uint8_t form[GJ_STORED_SIZE];
     uint32_t refusal = gj_store(&run, form, sizeof form);
@@ -81,7 +81,7 @@ static int take_up(const char *path) {
 
 static int fly_through(void) {
     gj_run run;
-    gj_reply reply = start_day(&run, 0);
+    gj_reply reply = start_day(&run, 0).reply;
     return fly_on(&run, reply);
 }
 

@@ -1,5 +1,5 @@
 /* SPDX-License-Identifier: MIT OR Apache-2.0 */
-/* What the examples share: the Earth, the words of the command line, rows for other programs. Units are km and seconds. */
+/* What the examples share: the Earth, the words of the command line, what a flight takes, rows for other programs. Units are km and seconds. */
 #ifndef FLIGHT_H
 #define FLIGHT_H
 
@@ -25,6 +25,13 @@ static inline int tell_refusal(uint32_t refusal) {
 static inline int has_word(int argc, char **argv, const char *word) {
     if (argc < 2) return 0;
     return argc == 2 && strcmp(argv[1], word) == 0 ? 1 : -1;
+}
+
+/* What a flight takes, said before it begins; at once, even if standard output goes into a pipe. */
+static inline void print_cost(gj_cost cost) {
+    printf("This takes %llu steps, room for %llu samples (%llu numbers) and %llu to %llu answers.\n\n", (unsigned long long)cost.steps,
+           (unsigned long long)cost.samples, (unsigned long long)cost.numbers, (unsigned long long)cost.least, (unsigned long long)cost.most);
+    fflush(stdout);
 }
 
 /* Seventeen digits: a program that reads them has the same bits. */

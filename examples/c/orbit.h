@@ -14,13 +14,13 @@ static inline gj_triple force(gj_triple r) {
     return a;
 }
 
-/* A day in one-minute steps, with samples or without. */
-static inline gj_reply start_day(gj_run *run, uint8_t samples) {
+/* A day in one-minute steps, with samples or without. Its times are whole, so what it takes is told with its first question. */
+static inline gj_whole_reply start_day(gj_run *run, uint8_t samples) {
     double speed = sqrt(MU / RADIUS);
     gj_triple r0 = {RADIUS, 0.0, 0.0}, v0 = {0.0, speed * COS_INCLINATION, speed * SIN_INCLINATION};
     gj_settings settings = gj_default_settings();
     settings.samples = samples;
-    return gj_start(run, settings, 0.0, DAY, r0, v0);
+    return gj_start_whole(run, settings, 0.0, DAY, r0, v0);
 }
 
 #endif

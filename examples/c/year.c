@@ -1,7 +1,7 @@
 /* SPDX-License-Identifier: MIT OR Apache-2.0 */
 /* A year of one-minute steps, 420 km up, with the Earth as a point and its bulge (J2).
  *
- *   year            prints a table by month, how far the energy moved, and the last ground track
+ *   year            prints what the flight takes, a table by month, how far the energy moved, and the last ground track
  *   year --csv      prints a row an hour, for other programs
  *
  * Height is that above a ball of the equator's radius.
@@ -41,30 +41,41 @@ static double height(const double *sample) {
 /* Where the orbit's plane goes up through the equator's. */
 static double node(const double *s) { return atan2(s[2] * s[6] - s[3] * s[5], s[1] * s[6] - s[3] * s[4]) * DEGREES; }
 
-/* One line, written over itself; nothing where standard error is no terminal. */
-static void show_progress(int day) {
-    static int shown = -1, wanted = -1;
-    if (wanted < 0) wanted = isatty(2);
-    if (!wanted || day <= shown) return;
-    shown = day;
-    int filled = 40 * day / DAYS;
-    fprintf(stderr, "\r  day %3d of %d  [%.*s%.*s] ", day, DAYS, filled, "########################################", 40 - filled,
-            "........................................");
-    if (day == DAYS) fprintf(stderr, "\r%70s\r", "");
+/* One line, written over itself; nothing where standard error is no terminal. The bar goes by the steps, whose number is known: it is full
+ * when the run is done. How many answers that takes is known within two bounds, so that they may end well before the most. */
+static void show_progress(gj_cost cost, uint64_t step, uint64_t answers) {
+    static const char full[] = "################", empty[] = "................";
+    int width = sizeof full - 1, filled = (int)((uint64_t)width * step / cost.steps);
+    if (!isatty(2)) return;
+    fprintf(stderr, "\r  step %llu of %llu [%.*s%.*s] answer %llu of at most %llu ", (unsigned long long)step, (unsigned long long)cost.steps,
+            filled, full, width - filled, empty, (unsigned long long)answers, (unsigned long long)cost.most);
     fflush(stderr);
 }
 
-static gj_reply carry_forward(double *samples) {
+static void end_progress(void) {
+    if (isatty(2)) fprintf(stderr, "\r%78s\r", "");
+}
+
+static gj_whole_reply start_year(gj_run *run) {
     double radius = EARTH + HEIGHT, speed = sqrt(MU / radius);
     gj_triple r0 = {radius, 0.0, 0.0}, v0 = {0.0, speed * COS_INCLINATION, speed * SIN_INCLINATION};
     gj_settings settings = gj_default_settings();
-    settings.samples = 1;
-    gj_run run;
-    gj_reply reply = gj_start(&run, settings, 0.0, (double)STEPS * STEP, r0, v0);
-    while (reply.kind == GJ_ASK) {
-        show_progress((int)(reply.t / 86400.0));
-        reply = gj_answer(&run, reply.number, force(reply.r), samples, NUMBERS);
+    settings.h = STEP, settings.samples = 1;
+    return gj_start_whole(run, settings, 0.0, (double)STEPS * STEP, r0, v0);
+}
+
+/* Shows how far it is once a day of the flight; the times of the startup, on and back, all lie near its beginning. */
+static gj_reply carry_forward(gj_run *run, gj_whole_reply begun, double *samples) {
+    gj_reply reply = begun.reply;
+    double next = 0.0;
+    for (uint64_t answers = 1; reply.kind == GJ_ASK; answers++) {
+        if (reply.t >= next) {
+            show_progress(begun.cost, (uint64_t)reply.t / STEP, answers);
+            next += (double)STEPS_A_DAY * STEP;
+        }
+        reply = gj_answer(run, reply.number, force(reply.r), samples, NUMBERS);
     }
+    end_progress();
     return reply;
 }
 
@@ -115,6 +126,13 @@ static void print_hours(const double *samples) {
     }
 }
 
+/* The table counts on so many samples, no fewer and no more. */
+static int has_its_room(gj_cost cost) {
+    if (cost.numbers == NUMBERS) return 1;
+    fprintf(stderr, "the samples take %llu numbers, and the table is laid out for %d\n", (unsigned long long)cost.numbers, NUMBERS);
+    return 0;
+}
+
 int main(int argc, char **argv) {
     static double samples[NUMBERS];
     int csv = has_word(argc, argv, "--csv");
@@ -122,8 +140,12 @@ int main(int argc, char **argv) {
         fprintf(stderr, "usage: year [--csv]\n");
         return 2;
     }
-    gj_reply end = carry_forward(samples);
-    show_progress(DAYS);
+    gj_run run;
+    gj_whole_reply begun = start_year(&run);
+    if (begun.reply.kind != GJ_ASK) return tell_refusal(begun.reply.refusal);
+    if (!has_its_room(begun.cost)) return 1;
+    if (!csv) print_cost(begun.cost);
+    gj_reply end = carry_forward(&run, begun, samples);
     if (end.kind != GJ_DONE) return tell_refusal(end.refusal);
     if (csv) {
         print_hours(samples);

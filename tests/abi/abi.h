@@ -6,6 +6,7 @@
 #include "gauss_jackson.h"
 
 #include <stdio.h>
+#include <string.h>
 
 extern int checks, failures;
 
@@ -33,15 +34,27 @@ static inline gj_reply play(gj_run *run, gj_reply reply, double *out, size_t cou
 
 static inline int refused(gj_reply reply, int refusal) { return reply.kind == GJ_REFUSED && reply.refusal == refusal; }
 
+/* Refused, and the reply says nothing else. */
+static inline int refused_alone(gj_reply reply, int refusal) {
+    gj_reply alone;
+    memset(&alone, 0, sizeof alone);
+    alone.kind = GJ_REFUSED, alone.refusal = (uint16_t)refusal;
+    return memcmp(&reply, &alone, sizeof alone) == 0;
+}
+
 void layout_of_settings(void);
 void layout_of_replies(void);
+void layout_of_costs(void);
 void layout_of_runs(void);
 void results(void);
 void promises(void);
 void between(void);
 void stored_refusals(void);
 void stored_runs(void);
+void whole_starts(void);
+void whole_runs(void);
 int wrapper_failures(void);
+int wrapper_says(uint16_t number, const char *text);
 size_t wrapper_between_numbers(void);
 size_t wrapper_sample_numbers(void);
 size_t wrapper_stored_size(void);

@@ -33,6 +33,8 @@ void *seen_default_settings(void *) __asm__("gj_default_settings");
 void *seen_start(void *, gj_run *, gj_settings, double, double, gj_triple, gj_triple) __asm__("gj_start");
 void *seen_answer(void *, gj_run *, uint16_t, gj_triple, double *, size_t) __asm__("gj_answer");
 void *seen_load(void *, gj_run *, const uint8_t *, size_t) __asm__("gj_load");
+void *seen_forecast(void *, gj_settings, double, double) __asm__("gj_forecast");
+void *seen_start_whole(void *, gj_run *, gj_settings, double, double, gj_triple, gj_triple) __asm__("gj_start_whole");
 
 static const gj_settings ODD = {61.25, 0x1p-40, 0x1p-41, 3, 11, 777777, 1};
 
@@ -126,4 +128,47 @@ void layout_of_replies(void) {
     loaded_layout(&run);
     number_layout(&run);
     state_layout(&run);
+}
+
+/* 0 to 17 in steps of 2 with samples and 3 startup passes: 9 steps, room for 10 samples, 58 to 78 answers. */
+static const gj_settings COSTED = {2.0, 0.0, 0.0, 1, 3, 1000000, 1};
+
+/* `at` is where the cost is to begin. */
+static void check_cost(const void *told, size_t size, size_t at) {
+    check(place_of_word(told, size, 9) == (long)(at + offsetof(gj_cost, steps)), "a cost's steps");
+    check(place_of_word(told, size, 10) == (long)(at + offsetof(gj_cost, samples)), "a cost's samples");
+    check(place_of_word(told, size, 100) == (long)(at + offsetof(gj_cost, numbers)), "a cost's numbers");
+    check(place_of_word(told, size, 41 + 8 * 1 + 4 + 5) == (long)(at + offsetof(gj_cost, least)), "a cost's least");
+    check(place_of_word(told, size, 41 + 8 * 3 + 4 * 2 + 5) == (long)(at + offsetof(gj_cost, most)), "a cost's most");
+}
+
+static void forecast_layout(void) {
+    unsigned char told[WIDE];
+    uint32_t refusal = GJ_NOT_WHOLE;
+    memset(told, PATTERN, sizeof told);
+    check(seen_forecast(told, COSTED, 0.0, 17.0) == (void *)told, "a forecast's hidden pointer comes back");
+    check(extent(told, WIDE) <= sizeof(gj_cost_reply), "a forecast stays within gj_cost_reply");
+    check(extent(told, WIDE) >= offsetof(gj_cost_reply, refusal) + sizeof refusal, "a forecast reaches to refusal");
+    check_cost(told, 48, offsetof(gj_cost_reply, cost));
+    memset(told, PATTERN, sizeof told);
+    seen_forecast(told, COSTED, 0.5, 17.0);
+    check(place_of(told, 48, &refusal, 4) == offsetof(gj_cost_reply, refusal), "a forecast's refusal");
+}
+
+/* A whole-second start tells what a plain one tells, and the cost after it. */
+static void whole_layout(void) {
+    unsigned char told[WIDE];
+    gj_run run;
+    gj_triple r0 = {1.5, 2.5, 3.5}, v0 = {4.5, 5.5, 6.5};
+    gj_reply asked = gj_start(&run, COSTED, 0.0, 17.0, r0, v0);
+    memset(told, PATTERN, sizeof told);
+    check(seen_start_whole(told, &run, COSTED, 0.0, 17.0, r0, v0) == (void *)told, "a whole-second start's hidden pointer comes back");
+    check(extent(told, WIDE) == sizeof(gj_whole_reply), "a whole-second start fills gj_whole_reply and no more");
+    check(memcmp(told + offsetof(gj_whole_reply, reply), &asked, sizeof asked) == 0, "a whole-second start's reply is the plain start's");
+    check_cost(told, 128, offsetof(gj_whole_reply, cost));
+}
+
+void layout_of_costs(void) {
+    forecast_layout();
+    whole_layout();
 }

@@ -2,14 +2,6 @@
 /* What the header says of storing and loading where they refuse: in which order, and what they leave. */
 #include "form.h"
 
-/* A refusal says its number and nothing else. */
-static int refused_alone(gj_reply reply, int refusal) {
-    gj_reply alone;
-    memset(&alone, 0, sizeof alone);
-    alone.kind = GJ_REFUSED, alone.refusal = (uint16_t)refusal;
-    return memcmp(&reply, &alone, sizeof alone) == 0;
-}
-
 /* Refused by that number; the run that the app holds is as it was, whichever it is: under way, ended, or no run at all. */
 static void check_refused(const uint8_t *bytes, size_t count, int refusal, const char *what) {
     gj_run held[3], before[3];

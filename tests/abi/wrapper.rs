@@ -1,6 +1,8 @@
 // SPDX-License-Identifier: MIT OR Apache-2.0
 //! The safe crate over the real library: counts, states and every refusal that it can meet there.
-use gauss_jackson::{numbers_for, Refusal, Reply, Run, Settings, Triple, BETWEEN_NUMBERS, SAMPLE_NUMBERS, STORED_SIZE};
+use gauss_jackson::{forecast, numbers_for, Cost, Refusal, Reply, Run, Settings, Triple, BETWEEN_NUMBERS, SAMPLE_NUMBERS, STORED_SIZE};
+use std::ffi::CStr;
+use std::os::raw::c_char;
 
 const PLAIN: Settings =
     Settings { h: 1.0, corrector_tol: 0.0, startup_tol: 0.0, max_corrector_iters: 1, max_startup_iters: 1, max_steps: 1_000_000, samples: false };
@@ -61,6 +63,30 @@ fn stored() {
     assert_eq!(Run::load(&[0; STORED_SIZE]).unwrap_err(), Refusal::StoredShape);
 }
 
+/// What a forecast tells, and a whole-second start too; its question is the plain start's.
+fn costs(settings: Settings, t0: f64, tf: f64) -> Result<Cost, Refusal> {
+    let (r0, v0) = (Triple::from([1.0, 2.0, 3.0]), Triple::default());
+    let told = forecast(settings, t0, tf);
+    match Run::start_whole(settings, t0, tf, r0, v0) {
+        Ok((run, reply, cost)) => {
+            assert_eq!((Ok(cost), run.open_question()), (told, Ok(reply)));
+            assert_eq!(Run::start(settings, t0, tf, r0, v0).unwrap().1, reply);
+        }
+        Err(refusal) => assert_eq!(Err(refusal), told),
+    }
+    told
+}
+
+fn whole() {
+    let sampled = Settings { h: 2.0, samples: true, ..PLAIN };
+    assert_eq!(costs(sampled, 0.0, 17.0), Ok(Cost { steps: 9, samples: 10, numbers: 100, least: 58, most: 62 }));
+    assert_eq!(costs(Settings { max_steps: 1_000_001, ..PLAIN }, 0.0, 8.0), Err(Refusal::Setting));
+    assert_eq!(costs(PLAIN, 0.0, f64::NAN), Err(Refusal::BlankDate));
+    assert_eq!(costs(PLAIN, 0.5, 9.5), Err(Refusal::NotWhole));
+    assert_eq!(costs(PLAIN, 0.0, 7.0), Err(Refusal::StepNotFinite));
+    assert_eq!(costs(Settings { max_steps: 7, ..PLAIN }, 0.0, 8.0), Err(Refusal::TooFewSteps));
+}
+
 #[cfg(feature = "dense")]
 fn between() {
     use gauss_jackson::{interpolate, interpolate_batch};
@@ -78,6 +104,40 @@ fn between() {
 
 #[cfg(not(feature = "dense"))]
 fn between() {}
+
+/// By their numbers, from 1 on.
+const NAMED: [Refusal; 14] = [
+    Refusal::StepNotFinite,
+    Refusal::MaxStepsExceeded,
+    Refusal::NoDenseOutput,
+    Refusal::InterpOutOfBounds,
+    Refusal::Setting,
+    Refusal::SampleRoom,
+    Refusal::NoQuestion,
+    Refusal::NotThatQuestion,
+    Refusal::Shape,
+    Refusal::StoredShape,
+    Refusal::StoredContent,
+    Refusal::BlankDate,
+    Refusal::NotWhole,
+    Refusal::TooFewSteps,
+];
+
+/// Whether the crate has a refusal of that number, with the header's text or the beginning of it: a flag has no limit here that it could name.
+///
+/// # Safety
+///
+/// The text ends with a zero.
+#[no_mangle]
+pub unsafe extern "C" fn wrapper_says(number: u16, text: *const c_char) -> i32 {
+    let text = CStr::from_ptr(text).to_string_lossy();
+    let said = |refusal: &Refusal| {
+        let own = refusal.to_string();
+        let own = own.strip_suffix(&format!(" (refusal {number})"));
+        refusal.number() == number && own.map_or(false, |own| text.starts_with(own))
+    };
+    NAMED.get(usize::from(number) - 1).map_or(false, said).into()
+}
 
 /// The crate's own sizes, for the header's.
 #[no_mangle]
@@ -98,6 +158,6 @@ pub extern "C" fn wrapper_stored_size() -> usize {
 /// How many of the parts failed; each says on standard error what it found.
 #[no_mangle]
 pub extern "C" fn wrapper_failures() -> i32 {
-    let parts: [fn(); 4] = [runs, refusals, stored, between];
+    let parts: [fn(); 5] = [runs, refusals, stored, whole, between];
     parts.iter().filter(|part| std::panic::catch_unwind(**part).is_err()).count() as i32
 }

@@ -5,6 +5,7 @@ use crate::case::{Case, BLANKS};
 use crate::check::{all_same, holds, same, Verdict};
 use crate::counting;
 use crate::judge::Judge;
+use crate::played;
 use crate::random::Random;
 use crate::raw::{self, Reply, Run, Settings, Triple};
 use crate::record::{Asked, Record};
@@ -157,6 +158,7 @@ impl Line<'_> {
             }
         };
         holds(!self.case.wants_samples() || self.written == steps + 1, "samples are missing")?;
+        played::own_run(self.case, &self.record, reply, tally)?;
         self.room.whole_is_as_expected()?;
         #[cfg(feature = "dense")]
         if let Some(table) = self.record.end.as_ref().ok().and_then(|s| s.dense.as_ref()) {

@@ -1,8 +1,8 @@
 // SPDX-License-Identifier: MIT OR Apache-2.0
 //! The module and the library in one process, on the same cases: every question, sample, state, count and refusal, and every byte of the
-//! buffers, written and not written; runs put away and taken up, damaged forms, and accelerations between samples, against a second writing of
-//! W-201, W-202 and W-203. Cases come on standard input, as `oracle cases` writes them, tolerances of any value among them; the tampering comes from
-//! a seed.
+//! buffers, written and not written; runs put away and taken up, damaged forms, accelerations between samples, and whole-second starts with their
+//! costs, against a second writing of W-201, W-202, W-203 and W-206. Cases come on standard input, as `oracle cases` writes them, tolerances of any
+//! value among them; the tampering and the whole-second starts come from a seed.
 #[path = "../../oracle/src/force.rs"]
 mod force;
 #[path = "../../oracle/src/random.rs"]
@@ -17,18 +17,24 @@ mod away;
 mod between;
 mod case;
 mod check;
+mod costs;
 mod counting;
 mod damage;
 mod follow;
 mod judge;
 mod layout;
+mod near;
+mod played;
 mod questions;
 mod record;
 mod room;
+mod starts;
 mod stored;
 mod tally;
 mod tamper;
 mod tray;
+mod whole;
+mod whole_tally;
 
 include!(concat!(env!("OUT_DIR"), "/module.rs"));
 
@@ -65,7 +71,7 @@ impl Asked {
 }
 
 /// One line of standard input; with a library that interpolates, a random table goes with every fourth case.
-fn take(line: &str, forms: bool, judge: &mut Judge, rng: &mut Random, tally: &mut Tally) -> check::Verdict {
+fn take(line: &str, forms: bool, judge: &mut Judge, rng: &mut Random, tally: &mut Tally) -> check::Verdict<Case> {
     let mut case = Case::read(line).ok_or_else(|| "not a case".to_string())?;
     if forms && case.away == 0 {
         case.away = 1;
@@ -76,13 +82,14 @@ fn take(line: &str, forms: bool, judge: &mut Judge, rng: &mut Random, tally: &mu
         between::compare_random(rng, tally)?;
     }
     tally.cases += 1;
-    Ok(())
+    Ok(case)
 }
 
 fn end(tally: &Tally, seed: u64, spent: f64) -> i32 {
     tally.print(seed, spent);
     let met = tally.forms.every_kind_was_met().and(tally.every_refusal_was_met());
-    match met.and(tally.every_acceleration_was_met()).and(tally.every_tolerance_was_met()) {
+    let met = met.and(tally.every_acceleration_was_met()).and(tally.every_tolerance_was_met());
+    match met.and(tally.every_whole_start_was_met()) {
         Ok(()) => 0,
         Err(fault) => {
             println!("{fault}");
@@ -97,11 +104,13 @@ pub extern "C" fn scale(forms: bool, count: u64, seed: u64, seconds: u64) -> i32
     let began = Instant::now();
     let asked = Asked { forms, count };
     let mut judge = asked.judge();
-    let mut rng = Random(seed ^ 0x5ca1e);
+    // The whole-second starts have a generator of their own, so that a seed gives the rest as it always did.
+    let (mut rng, mut whole) = (Random(seed ^ 0x5ca1e), Random(seed ^ 0x206));
     let mut tally = Tally::default();
     for (n, line) in std::io::stdin().lock().lines().enumerate() {
         let line = line.expect("standard input is text");
-        if let Err(fault) = take(&line, forms, &mut judge, &mut rng, &mut tally) {
+        let case = take(&line, forms, &mut judge, &mut rng, &mut tally);
+        if let Err(fault) = case.and_then(|case| whole::compare(&case, &mut whole, &mut tally)) {
             println!("DIFFERS: {fault}\n{line}\n(case {n} of seed {seed})");
             return 1;
         }

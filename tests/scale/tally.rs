@@ -2,6 +2,7 @@
 //! What was compared, counted.
 use crate::case::{Case, Sharpness};
 use crate::check::{holds, Verdict};
+use crate::whole_tally::Wholes;
 
 /// Damaged forms, by what became of them.
 #[derive(Default)]
@@ -17,9 +18,9 @@ pub struct Forms {
 }
 
 /// Refusals have numbers from 1 to this.
-const REFUSALS: usize = 12;
+const REFUSALS: usize = 14;
 
-/// From so many cases on, each refusal must be among them.
+/// From so many cases on, each refusal must be among them, and each kind of whole-second start.
 const ENOUGH_CASES: u64 = 2000;
 
 /// From so many damaged forms on, each kind of verdict must be among them; and from so many, each waiting point among those taken.
@@ -97,7 +98,7 @@ pub struct Tally {
     pub questions: u64,
     pub samples: u64,
     pub finished: u64,
-    /// By 01's and 02's number; those of interpolation, storing and loading too.
+    /// By 01's and 02's number; those of interpolation, storing, loading and whole-second starts too.
     pub refused: [u64; REFUSALS + 1],
     /// Answers given twice, the second time on a copy of the run and into another room.
     pub twins: u64,
@@ -111,6 +112,7 @@ pub struct Tally {
     pub times: u64,
     pub accelerations: Accelerations,
     pub tolerances: Tolerances,
+    pub wholes: Wholes,
     /// Runs put away and taken up in the middle of their line; and older forms taken up again.
     pub away: u64,
     pub older: u64,
@@ -130,6 +132,7 @@ impl Tally {
         let a = &self.accelerations;
         println!("    components of their accelerations: {} finite, {} infinite, {} NaN", a.finite, a.infinite, a.nan);
         self.tolerances.print();
+        self.wholes.print();
         println!("  {} times put away and taken up, {} older forms taken up again", self.away, self.older);
         self.forms.print();
     }
@@ -139,6 +142,13 @@ impl Tally {
         let is_left_out = |n: usize| cfg!(not(feature = "dense")) && [3, 4, 9].contains(&n);
         let missing = (1..=REFUSALS).find(|n| self.refused[*n] == 0 && !is_left_out(*n));
         holds(self.cases < ENOUGH_CASES || missing.is_none(), format_args!("refusal {missing:?} did not occur"))
+    }
+
+    pub fn every_whole_start_was_met(&self) -> Verdict {
+        if self.cases < ENOUGH_CASES {
+            return Ok(());
+        }
+        self.wholes.every_kind_was_met()
     }
 
     /// Three for each time; and each kind of them, unless there is no interpolation.

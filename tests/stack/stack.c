@@ -9,6 +9,8 @@ enum { DEEP = 1 << 18, NEAR = 256, PAINT = 0x5A, SAID = 32768 };
 
 static gj_run run;
 static gj_reply reply;
+static gj_cost_reply forecast;
+static gj_whole_reply begun;
 static gj_settings settings;
 static double samples[110], between[2 * GJ_BETWEEN_NUMBERS], times[2];
 static uint32_t told;
@@ -20,6 +22,13 @@ static void call_default_settings(void) { settings = gj_default_settings(); }
 static void call_start(void) {
     gj_triple r0 = {1, 2, 3}, v0 = {0, 1, 0};
     reply = gj_start(&run, settings, 0.0, 17.0, r0, v0);
+}
+
+static void call_forecast(void) { forecast = gj_forecast(settings, 0.0, 17.0); }
+
+static void call_start_whole(void) {
+    gj_triple r0 = {1, 2, 3}, v0 = {0, 1, 0};
+    begun = gj_start_whole(&run, settings, 0.0, 17.0, r0, v0);
 }
 
 static void call_answer(void) {
@@ -60,8 +69,20 @@ static void keep(long *most, long bytes) {
 
 /* The most that the calls took. */
 typedef struct most {
-    long startup, step, open, store, load;
+    long forecast, whole, startup, step, open, store, load;
 } most;
+
+/* A forecast and a whole-second start, taken and then refused: by the last test, so that all are made. */
+static void profile(most *m) {
+    for (int fits = 1; fits >= 0; fits--) {
+        settings.max_steps = fits ? GJ_MAX_STEPS : 8;
+        keep(&m->forecast, taken(call_forecast));
+        failures += forecast.refusal != (fits ? 0 : GJ_TOO_FEW_STEPS);
+        keep(&m->whole, taken(call_start_whole));
+        failures += begun.reply.kind != (fits ? GJ_ASK : GJ_REFUSED);
+    }
+    settings.max_steps = GJ_MAX_STEPS;
+}
 
 /* The run goes through the stored form: what comes out of it is answered next. */
 static void put_away(most *m) {
@@ -92,8 +113,13 @@ int main(void) {
     print("gj_default_settings", taken(call_default_settings));
     settings.h = 2.0;
     print("gj_start", taken(call_start));
-    most m = {0, 0, 0, 0, 0};
-    for (settings.samples = 0; settings.samples <= 1; settings.samples++) follow(&m);
+    most m = {0, 0, 0, 0, 0, 0, 0};
+    for (settings.samples = 0; settings.samples <= 1; settings.samples++) {
+        profile(&m);
+        follow(&m);
+    }
+    print("gj_forecast", m.forecast);
+    print("gj_start_whole", m.whole);
     print("gj_answer, startup", m.startup);
     print("gj_answer, later", m.step);
     print("gj_open_question", m.open);

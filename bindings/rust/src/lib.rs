@@ -3,7 +3,7 @@
 //! for accelerations, one question at a time; [`Run::answer`] answers one, [`Run::drive`] all of them.
 //!
 //! ```
-//! use gauss_jackson::{interpolate, numbers_for, Run, Sample, Settings, Triple};
+//! use gauss_jackson::{interpolate, Run, Sample, Settings, Triple};
 //!
 //! /// The Earth as a point, in km and s.
 //! fn force(_t: f64, r: Triple, _v: Triple) -> Triple {
@@ -15,10 +15,11 @@
 //! fn main() -> Result<(), gauss_jackson::Refusal> {
 //!     let (r0, v0) = (Triple::from([6778.137, 0.0, 0.0]), Triple::from([0.0, 4.763, 6.010]));
 //!     let settings = Settings { samples: true, ..Settings::default() }; // steps of 60; samples are off unless asked for
-//!     let mut samples = vec![0.0; numbers_for(1440)]; // 10 numbers for each step, and 10 more
 //!
-//!     let (mut run, _) = Run::start(settings, 0.0, 86_400.0, r0, v0)?;
-//!     let end = run.drive(force, &mut samples)?; // `?` tells a refusal; here the run has finished
+//!     let (mut run, _, cost) = Run::start_whole(settings, 0.0, 86_400.0, r0, v0)?; // `?` tells a refusal
+//!     println!("this takes {} steps and at most {} answers", cost.steps, cost.most);
+//!     let mut samples = vec![0.0; cost.numbers]; // 10 numbers for each step, and 10 more
+//!     let end = run.drive(force, &mut samples)?; // here the run has finished
 //!
 //!     println!("after {} steps: {:?} km", end.steps, end.r);
 //!     println!("an hour after the start: {:?} km", Sample::view(&samples)[60].r);
@@ -31,6 +32,12 @@
 //!
 //! Any that agree: times, the step, positions and velocities are in the units of your force. The default step of 60 is a minute where the
 //! unit of time is the second. The examples use km and s.
+//!
+//! # The cost beforehand
+//!
+//! Where start, end and step are whole numbers, what a run takes is known before it is begun: [`forecast`] tells it alone, for a button that
+//! is not pressed yet, and [`Run::start_whole`] tells it and starts. A [`Cost`] has the steps, the room for the samples, and how many answers
+//! it takes at least and at most. What that start accepts always finishes, given the room. [`Run::start`] takes any numbers, and tells no cost.
 //!
 //! # What the force is asked
 //!
@@ -74,6 +81,7 @@ mod run;
 mod sample;
 mod settings;
 mod stored;
+mod whole;
 
 pub use between::State;
 #[cfg(feature = "dense")]
@@ -87,3 +95,4 @@ pub use run::{Reply, Run};
 pub use sample::{numbers_for, Sample, SAMPLE_NUMBERS};
 pub use settings::Settings;
 pub use stored::STORED_SIZE;
+pub use whole::{forecast, Cost};

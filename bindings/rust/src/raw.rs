@@ -50,6 +50,33 @@ pub struct Reply {
     pub number: u16,
 }
 
+/// What a run of whole numbers takes.
+#[repr(C)]
+#[derive(Debug, Clone, Copy, PartialEq, Eq)]
+pub struct Cost {
+    pub steps: u64,
+    pub samples: u64,
+    pub numbers: u64,
+    pub least: u64,
+    pub most: u64,
+}
+
+/// A forecast: 0 and the cost, or a refusal's number and a cost of zeros.
+#[repr(C)]
+#[derive(Clone, Copy)]
+pub struct CostReply {
+    pub cost: Cost,
+    pub refusal: u32,
+}
+
+/// What a whole-second start tells: a reply, and the cost.
+#[repr(C)]
+#[derive(Clone, Copy)]
+pub struct WholeReply {
+    pub reply: Reply,
+    pub cost: Cost,
+}
+
 /// The run, by its size alone: nothing here looks inside.
 #[repr(C)]
 #[derive(Clone)]
@@ -61,6 +88,8 @@ pub const BETWEEN_NUMBERS: usize = 9;
 extern "C" {
     pub fn gj_default_settings() -> Settings;
     pub fn gj_start(run: *mut Run, settings: Settings, t0: f64, tf: f64, r0: Triple, v0: Triple) -> Reply;
+    pub fn gj_forecast(settings: Settings, t0: f64, tf: f64) -> CostReply;
+    pub fn gj_start_whole(run: *mut Run, settings: Settings, t0: f64, tf: f64, r0: Triple, v0: Triple) -> WholeReply;
     pub fn gj_answer(run: *mut Run, number: u16, a: Triple, out: *mut f64, count: usize) -> Reply;
     pub fn gj_open_question(run: *const Run) -> Reply;
     pub fn gj_store(run: *const Run, out: *mut u8, out_bytes: usize) -> u32;
@@ -95,6 +124,9 @@ mod tests {
         assert_eq!((size_of::<Triple>(), align_of::<Triple>()), (24, 8));
         assert_eq!((size_of::<Settings>(), align_of::<Settings>()), (56, 8));
         assert_eq!((size_of::<Reply>(), align_of::<Reply>()), (88, 8));
+        assert_eq!((size_of::<Cost>(), align_of::<Cost>()), (40, 8));
+        assert_eq!((size_of::<CostReply>(), align_of::<CostReply>()), (48, 8));
+        assert_eq!((size_of::<WholeReply>(), align_of::<WholeReply>()), (128, 8));
         assert_eq!((size_of::<Run>(), align_of::<Run>()), (1056, 8));
     }
 
@@ -117,5 +149,13 @@ mod tests {
         assert_eq!([offset!(Reply, evals), offset!(Reply, steps), offset!(Reply, startup_iters)], [56, 64, 72]);
         assert_eq!([offset!(Reply, kind), offset!(Reply, refusal), offset!(Reply, number)], [80, 84, 86]);
         assert_eq!([offset!(Triple, x), offset!(Triple, y), offset!(Triple, z)], [0, 8, 16]);
+    }
+
+    #[test]
+    fn costs_stand_as_in_the_header() {
+        assert_eq!([offset!(Cost, steps), offset!(Cost, samples), offset!(Cost, numbers)], [0, 8, 16]);
+        assert_eq!([offset!(Cost, least), offset!(Cost, most)], [24, 32]);
+        assert_eq!([offset!(CostReply, cost), offset!(CostReply, refusal)], [0, 40]);
+        assert_eq!([offset!(WholeReply, reply), offset!(WholeReply, cost)], [0, 88]);
     }
 }

@@ -11,7 +11,7 @@ use std::fmt;
 #[derive(Debug, Clone, Copy, PartialEq, Eq, Hash)]
 #[non_exhaustive]
 pub enum Refusal {
-    /// At a start: the step is zero, or the span is shorter than eight steps.
+    /// At a start or a forecast: the step is zero, or the span is shorter than eight steps.
     StepNotFinite,
     /// At an answer: a further step is due and `max_steps` are made. The run has ended; its samples stay.
     MaxStepsExceeded,
@@ -19,7 +19,7 @@ pub enum Refusal {
     NoDenseOutput,
     /// At an interpolation: a time outside the samples.
     InterpOutOfBounds,
-    /// At a start: a setting over its limit.
+    /// At a start or a forecast: a setting over its limit.
     Setting,
     /// At an answer: the samples due now do not all fit. The run has ended; this call wrote none.
     SampleRoom,
@@ -33,13 +33,17 @@ pub enum Refusal {
     StoredShape,
     /// At a loading: the blocks are whole, but hold no run.
     StoredContent,
-    /// At a start: `t0`, `tf` or the step is a NaN or an infinity.
+    /// At a start or a forecast: `t0`, `tf` or the step is a NaN or an infinity.
     BlankDate,
+    /// At a whole-second start or a forecast: `t0`, `tf` or the step is no whole number, or beyond the bounds of that profile.
+    NotWhole,
+    /// At a whole-second start or a forecast: `max_steps` is below the steps that the run takes.
+    TooFewSteps,
     /// A number that this crate has no name for: the library is newer than the crate.
     Other(u16),
 }
 
-const NAMED: [Refusal; 12] = [
+const NAMED: [Refusal; 14] = [
     Refusal::StepNotFinite,
     Refusal::MaxStepsExceeded,
     Refusal::NoDenseOutput,
@@ -52,6 +56,8 @@ const NAMED: [Refusal; 12] = [
     Refusal::StoredShape,
     Refusal::StoredContent,
     Refusal::BlankDate,
+    Refusal::NotWhole,
+    Refusal::TooFewSteps,
 ];
 
 impl Refusal {
@@ -96,6 +102,8 @@ impl Refusal {
             Refusal::StoredShape => "there are not 2,048 bytes, or a block's number or check is wrong: cut short, damaged, or no stored run",
             Refusal::StoredContent => "the blocks are whole, but hold no run: another form number, or what no run has",
             Refusal::BlankDate => "the start, the end or the step is not a finite number; look at the dates that went in",
+            Refusal::NotWhole => "the start, the end or the step is no whole number, or beyond the bounds of a whole-second start",
+            Refusal::TooFewSteps => "max_steps is below the steps that the run takes; a larger max_steps or a longer step would do",
             Refusal::Other(_) => "a refusal that this crate has no name for",
         }
     }
@@ -123,14 +131,16 @@ mod tests {
         assert_eq!(Refusal::of(9), Refusal::Shape);
         assert_eq!(Refusal::of(11), Refusal::StoredContent);
         assert_eq!(Refusal::of(12), Refusal::BlankDate);
+        assert_eq!(Refusal::of(13), Refusal::NotWhole);
+        assert_eq!(Refusal::of(14), Refusal::TooFewSteps);
         assert_eq!(Refusal::of(0), Refusal::Other(0));
-        assert_eq!(Refusal::of(13), Refusal::Other(13));
+        assert_eq!(Refusal::of(15), Refusal::Other(15));
     }
 
     #[test]
     fn each_has_a_text_of_its_own() {
-        let texts: HashSet<_> = (1..=13).map(|n| Refusal::of(n).text()).collect();
-        assert_eq!(texts.len(), 13);
+        let texts: HashSet<_> = (1..=15).map(|n| Refusal::of(n).text()).collect();
+        assert_eq!(texts.len(), 15);
         let error: &dyn std::error::Error = &Refusal::NotThatQuestion;
         let said = "the answer's number is not that of the open question; the run waits as before (refusal 8)";
         assert_eq!(error.to_string(), said);

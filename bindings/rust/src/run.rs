@@ -30,7 +30,7 @@ pub(crate) fn read(reply: raw::Reply) -> Result<Reply, Refusal> {
 pub struct Run(pub(crate) raw::Run);
 
 impl Run {
-    /// A run from `t0` towards `tf`, with its first question.
+    /// A run from `t0` towards `tf`, with its first question. For whole numbers [`Run::start_whole`] tells its cost too.
     ///
     /// ```
     /// use gauss_jackson::{Reply, Run, Settings, Triple};

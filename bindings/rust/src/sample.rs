@@ -6,7 +6,7 @@ use crate::Triple;
 pub const SAMPLE_NUMBERS: usize = 10;
 
 /// How many numbers the samples of a run of so many steps take: one more sample than steps. For whole-number times the steps are the span
-/// over the step, rounded up.
+/// over the step, rounded up: [`forecast`](crate::forecast) tells them, and this room too.
 ///
 /// ```
 /// // A day of minutes.

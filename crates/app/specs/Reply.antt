@@ -14,12 +14,20 @@ use Rattle.triple.specs.declared.Triple.{Triple}
 use Rattle.run.specs.declared.Track.{Track}
 use Rattle.run.specs.declared.Trial.{Trial}
 use Rattle.run.specs.declared.Run.{Run}
+use Rattle.profile.specs.declared.Foreseen.{Foreseen}
+use Rattle.profile.specs.declared.Foreseen.the-variants.{Costs, Refused as NoCosts}
+use Rattle.profile.specs.declared.WholeTold.{WholeTold}
+use Rattle.profile.specs.declared.WholeStart.{WholeStart}
+use Rattle.profile.specs.Costs.{noCost}
 use Rattle.fastpath.specs.declared.Look.{Look}
 use Rattle.fastpath.specs.Moving.{askedAgain, madeStep, withTrial, withStep}
 use Rattle.app.specs.declared.Reply.{Reply}
 use Rattle.app.specs.declared.TriedReply.{TriedReply}
 use Rattle.app.specs.declared.SteppedReply.{SteppedReply}
 use Rattle.app.specs.declared.Replied.{Replied}
+use Rattle.app.specs.declared.CostReply.{CostReply}
+use Rattle.app.specs.declared.WholeReply.{WholeReply}
+use Rattle.app.specs.declared.WholeReplied.{WholeReplied}
 
 -- the number of the interface
 abbrev pub abiNumber : ℕ
@@ -45,6 +53,17 @@ replyOf (Refused e) = refusedBy e
 
 abbrev pub repliedOf : Answered → Replied
 repliedOf d = record { run = d .run; reply = replyOf (d .outcome) }
+
+-- ---- the whole-second profile: no refusal is 0, and with a refusal no cost is told
+unfoldable pub costReplyOf : Foreseen → CostReply
+costReplyOf (Costs c) = record { cost = c; refusal = 0 }
+costReplyOf (NoCosts e) = record { cost = noCost; refusal = numberOf e }
+
+unfoldable pub wholeReplyOf : WholeTold → WholeReply
+wholeReplyOf d = record { reply = replyOf (d .outcome); cost = d .cost }
+
+abbrev pub wholeRepliedOf : WholeStart → WholeReplied
+wholeRepliedOf d = record { run = d .run; told = wholeReplyOf (d .told) }
 
 -- ---- by parts, where an answer goes the fast path
 unfoldable pub triedReply : Look → Plan → Track → Trial → TriedReply

@@ -2,6 +2,7 @@
 // What an app links: the whole run and the samples between, for C and for Rust. Thin over the proved functions, and proved themselves.
 // No function here depends on its caller's care beyond what a pointer needs; include/gauss_jackson.h says that, and the layouts.
 use plan::Settings;
+use profile::Cost;
 use run::Mark;
 use run::Run;
 use run::Track;
@@ -14,7 +15,9 @@ ghost use Rattle.gauss_jackson.specs.Answers.{started, answered, openQuestion};
 ghost use Rattle.refusals.specs.Numbers.{numberTold};
 ghost use Rattle.stored.specs.Stored.{storing, storedIn, loaded};
 ghost use Rattle.dense.specs.Interpolation.{judged, interpolated, batched};
-ghost use Rattle.app.specs.Reply.{abiNumber, replyOf};
+ghost use Rattle.profile.specs.Costs.{forecastOf};
+ghost use Rattle.profile.specs.Start.{startedWhole};
+ghost use Rattle.app.specs.Reply.{abiNumber, replyOf, costReplyOf, wholeReplyOf};
 
 mod keeping;
 mod lending;
@@ -39,6 +42,27 @@ pub struct Reply {
 pub struct Replied {
     pub run: Run,
     pub reply: Reply,
+}
+
+// A forecast in plain numbers: `refusal` is 0 and the cost stands, or it is the refusal's number and the cost is all zero.
+#[repr(C)]
+pub struct CostReply {
+    pub cost: Cost,
+    pub refusal: u32,
+}
+
+// What a start in the whole-second profile tells: as a plain start, and the cost beside it.
+#[repr(C)]
+pub struct WholeReply {
+    pub reply: Reply,
+    pub cost: Cost,
+}
+
+// The run to go on with, and what its start tells.
+#[repr(C)]
+pub struct WholeReplied {
+    pub run: Run,
+    pub told: WholeReply,
 }
 
 // What changes where the open step is tried once more, and the reply.
@@ -90,6 +114,31 @@ pub extern "C" fn gj_start(
     let done = replies::started_by(settings, t0, tf, r0, v0);
     *run = done.run;
     done.reply
+}
+
+// W-206: what a run of whole numbers takes, before it is begun; or the refusal that its start would get (5, 12, 13, 1, 14).
+#[no_mangle]
+pub extern "C" fn gj_forecast(settings: Settings, t0: f64, tf: f64) -> CostReply
+    ensures { λ x. ⌜ x ≡ costReplyOf (forecastOf settings t0 tf) ⌝ }
+{
+    replies::cost_reply_of(profile::forecast(settings, t0, tf))
+}
+
+// A start in the whole-second profile: the plain start's run, with its cost; or an ended one where the start is refused.
+#[no_mangle]
+pub extern "C" fn gj_start_whole(
+    run: &mut Run,
+    settings: Settings,
+    t0: f64,
+    tf: f64,
+    r0: Triple,
+    v0: Triple,
+) -> WholeReply
+    ensures { λ x. ⌜ (x ≡ wholeReplyOf (startedWhole settings t0 tf r0 v0 .told)) × (now (run .exit) ≡ startedWhole settings t0 tf r0 v0 .run) ⌝ }
+{
+    let done = replies::started_whole_by(settings, t0, tf, r0, v0);
+    *run = done.run;
+    done.told
 }
 
 // An answer: the lent run moves on, or stays as it is where the answer is refused by 7 or 8. `out` is the sample buffer.

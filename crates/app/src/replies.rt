@@ -2,13 +2,19 @@
 // What a call gives, in plain numbers.
 ghost use mathlib.Core.Path.{_≡_};
 ghost use Rattle.gauss_jackson.specs.Answers.{started, answered, openQuestion};
-ghost use Rattle.app.specs.Reply.{asksFor, finishedAt, refusedBy, replyOf, repliedOf};
+ghost use Rattle.profile.specs.Start.{startedWhole};
+ghost use Rattle.app.specs.Reply.{asksFor, finishedAt, refusedBy, replyOf, repliedOf, costReplyOf, wholeReplyOf, wholeRepliedOf};
+use crate::CostReply;
 use crate::Replied;
 use crate::Reply;
+use crate::WholeReplied;
+use crate::WholeReply;
 use gauss_jackson::Outcome;
 use gauss_jackson::Question;
 use gauss_jackson::Solution;
 use plan::Settings;
+use profile::Foreseen;
+use profile::WholeTold;
 use refusals::Refusal;
 use run::Run;
 use triple::Triple;
@@ -101,4 +107,44 @@ pub fn open_in(run: Run) -> Reply
     ensures { λ x. ⌜ x ≡ replyOf (openQuestion run) ⌝ }
 {
     reply_of(gauss_jackson::open_question(run))
+}
+
+pub fn cost_reply_of(forecast: Foreseen) -> CostReply
+    ensures { λ x. ⌜ x ≡ costReplyOf forecast ⌝ }
+{
+    match forecast {
+        Foreseen::Costs(cost) => CostReply { cost, refusal: 0 },
+        Foreseen::Refused(refusal) => {
+            let cost = profile::no_cost();
+            let number = refusals::number_of(refusal);
+            CostReply {
+                cost,
+                refusal: number as u32,
+            }
+        }
+    }
+}
+
+fn whole_reply_of(told: WholeTold) -> WholeReply
+    ensures { λ x. ⌜ x ≡ wholeReplyOf told ⌝ }
+{
+    let outcome = told.outcome;
+    let reply = reply_of(outcome);
+    let cost = told.cost;
+    WholeReply { reply, cost }
+}
+
+pub fn started_whole_by(
+    settings: Settings,
+    t0: f64,
+    tf: f64,
+    r0: Triple,
+    v0: Triple,
+) -> WholeReplied
+    ensures { λ x. ⌜ x ≡ wholeRepliedOf (startedWhole settings t0 tf r0 v0) ⌝ }
+{
+    let done = profile::start_whole(settings, t0, tf, r0, v0);
+    let run = done.run;
+    let told = whole_reply_of(done.told);
+    WholeReplied { run, told }
 }

@@ -11,7 +11,7 @@ use Rattle.triple.specs.Size.{absolute}
 use Rattle.triple.specs.Finite.{isFinite}
 use Rattle.whole.specs.Whole.{IsWhole}
 use Rattle.whole.proofs.Exact.{Is, move, neg-whole, one-whole}
-use Rattle.whole.proofs.Integers.{plus, less, Holds, Within, sum-parts, neg-parts, le-parts, le-int, abs-int, read, write}
+use Rattle.whole.proofs.Integers.{plus, less, Holds, Within, within, wider, sum-parts, neg-parts, le-parts, le-int, abs-int, read, write}
 use Rattle.whole.proofs.Along.{Along, sent-along}
 use Rattle.plan.specs.declared.Settings.{Settings}
 use Rattle.plan.specs.Plan.{directionOf, planOf}
@@ -20,13 +20,6 @@ use Rattle.counting.specs.Counting.{spanOf, Bounds}
 use Rattle.counting.proofs.Spans.{Span, whole-finite}
 
 -- ---- sizes
-within : (n : ℕ) (z : ℤ) → natAbs z ≤ n → Within n z
-within n (pos m) h = (h, zero-le)
-within n (negsuc m) h = (zero-le, h)
-
-wider : (m n : ℕ) (z : ℤ) → m ≤ n → Within m z → Within n z
-wider m n z l h = let a = h .0 in let b = h .1 in (omega arith, omega arith)
-
 between : (N A B : ℕ) (z : ℤ) → A + less z ≡ plus z + B → A ≤ B + N → B ≤ A + N → Within N z
 between N A B (pos n) e h k = (omega arith, zero-le)
 between N A B (negsuc n) e h k = (zero-le, omega arith)

@@ -11,7 +11,8 @@ use run::waiting;
 use triple::Triple;
 ghost use mathlib.Core.Path.{_≡_};
 ghost use Rattle.plan.specs.Plan.{defaultSettings};
-ghost use Rattle.gauss_jackson.specs.Answers.{started, answered, openQuestion};
+ghost use Rattle.gauss_jackson.specs.Answers.{ending, started, answered, openQuestion};
+ghost use Rattle.gauss_jackson.specs.declared.Outcome.the-variants.{Refused};
 
 mod advance;
 mod outcomes;
@@ -64,6 +65,13 @@ pub fn default_settings() -> Settings
     }
 }
 
+// A start that is refused: no run, which is one that is ended.
+pub fn refuse(refusal: Refusal) -> Answered
+    ensures { λ x. ⌜ x ≡ ending (Refused refusal) ⌝ }
+{
+    outcomes::end(Outcome::Refused(refusal))
+}
+
 // A start: a run with its first question, or a refusal with a run that is ended.
 pub fn start(settings: Settings, t0: f64, tf: f64, r0: Triple, v0: Triple) -> Answered
     ensures { λ x. ⌜ x ≡ started settings t0 tf r0 v0 ⌝ }
@@ -72,7 +80,7 @@ pub fn start(settings: Settings, t0: f64, tf: f64, r0: Triple, v0: Triple) -> An
     let verdict = plan::verdict_on(plan);
     match verdict {
         Verdict::Fine => outcomes::begin(plan, r0, v0),
-        Verdict::Refuse(refusal) => outcomes::end(Outcome::Refused(refusal)),
+        Verdict::Refuse(refusal) => refuse(refusal),
     }
 }
 

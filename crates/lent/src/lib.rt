@@ -2,10 +2,12 @@
 // 01: "a run lent by the caller and moved on where it stands". Each function calls the one by value and stores the run back.
 use gauss_jackson::Outcome;
 use plan::Settings;
+use profile::WholeTold;
 use run::Run;
 use triple::Triple;
 ghost use mathlib.Core.Path.{_≡_};
 ghost use Rattle.gauss_jackson.specs.Answers.{started, answered};
+ghost use Rattle.profile.specs.Start.{startedWhole};
 
 // A start: the lent run becomes the started one, or an ended one where the start is refused.
 pub fn start_lent(
@@ -21,6 +23,22 @@ pub fn start_lent(
     let done = gauss_jackson::start(settings, t0, tf, r0, v0);
     *run = done.run;
     done.outcome
+}
+
+// A start in the whole-second profile: the lent run becomes the plain start's, with its cost told; or an ended one where the start is refused.
+pub fn start_whole_lent(
+    run: &mut Run,
+    settings: Settings,
+    t0: f64,
+    tf: f64,
+    r0: Triple,
+    v0: Triple,
+) -> WholeTold
+    ensures { λ r. ⌜ (r ≡ startedWhole settings t0 tf r0 v0 .told) × (now (run .exit) ≡ startedWhole settings t0 tf r0 v0 .run) ⌝ }
+{
+    let done = profile::start_whole(settings, t0, tf, r0, v0);
+    *run = done.run;
+    done.told
 }
 
 // An answer: the lent run moves on, or stays as it is where the answer is refused by 7 or 8.

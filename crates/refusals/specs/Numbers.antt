@@ -1,7 +1,7 @@
 -- 01, "Numbered answers", and 02: the number of each refusal.
 use Prim.Native.Nat.{ℕ}
 use Rattle.refusals.specs.declared.Refusal.{Refusal}
-use Rattle.refusals.specs.declared.Refusal.the-variants.{StepNotFinite, MaxStepsExceeded, NoDenseOutput, InterpOutOfBounds, Setting, SampleRoom, NoQuestion, NotThatQuestion, Shape, StoredShape, StoredContent, BlankDate}
+use Rattle.refusals.specs.declared.Refusal.the-variants.{StepNotFinite, MaxStepsExceeded, NoDenseOutput, InterpOutOfBounds, Setting, SampleRoom, NoQuestion, NotThatQuestion, Shape, StoredShape, StoredContent, BlankDate, NotWhole, TooFewSteps}
 use Rattle.refusals.specs.declared.Told.{Told}
 use Rattle.refusals.specs.declared.Told.the-variants.{Written, Refused}
 
@@ -21,6 +21,10 @@ numberOf StoredShape = 10
 numberOf StoredContent = 11
 -- W-202: "12 for a start, end or step that is not finite"
 numberOf BlankDate = 12
+-- W-206, of a whole-second start: "13 where one of these three is not whole or beyond the bounds", of start, end and step
+numberOf NotWhole = 13
+-- and "14 for max_steps below K"
+numberOf TooFewSteps = 14
 
 -- a refusal's number, and 0 where all is written
 abbrev pub numberTold : Told → ℕ

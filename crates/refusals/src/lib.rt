@@ -16,6 +16,8 @@ pub enum Refusal {
     StoredShape,
     StoredContent,
     BlankDate,
+    NotWhole,
+    TooFewSteps,
 }
 
 // What a call tells that writes into a lent buffer.
@@ -41,6 +43,8 @@ pub fn number_of(refusal: Refusal) -> u8
         Refusal::StoredShape => 10,
         Refusal::StoredContent => 11,
         Refusal::BlankDate => 12,
+        Refusal::NotWhole => 13,
+        Refusal::TooFewSteps => 14,
     }
 }
 

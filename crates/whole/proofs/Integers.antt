@@ -1,7 +1,7 @@
 -- The laws with an integer for the whole number, and the two readings of "x is the whole number z".
 use mathlib.Core.Path.{_≡_, refl, sym, _∙_, subst}
 use mathlib.Core.Logic.{inl, inr, ⊎-elim}
-use Prim.Native.Nat.{ℕ, zero, suc, _+_, _-_, _*_, _^_, _≤_, _<_}
+use Prim.Native.Nat.{ℕ, zero, suc, _+_, _-_, _*_, _^_, _≤_, _<_, zero-le}
 use native.Mathlib.Omega.{arith}
 use mathlib.Core.Bool.{Bool, true, false, not, cond}
 use lib.IntN.{ℤ, pos, negsuc, negℤ, natAbs, _+ℤ_, _-ℤ_, _*ℤ_, subℕ}
@@ -29,6 +29,13 @@ Holds x z = Is x (plus z) (less z)
 -- |z| ≤ b
 abbrev pub Within : ℕ → ℤ → Type 0
 Within b z = (plus z ≤ b) × (less z ≤ b)
+
+pub within : (n : ℕ) (z : ℤ) → natAbs z ≤ n → Within n z
+within n (pos m) h = (h, zero-le)
+within n (negsuc m) h = (zero-le, h)
+
+pub wider : (m n : ℕ) (z : ℤ) → m ≤ n → Within m z → Within n z
+wider m n z l h = let a = h .0 in let b = h .1 in (omega arith, omega arith)
 
 pub whole-ofInt : (z : ℤ) → Within (2 ^ 53) z → Holds (ofInt binary64 z) z
 unfolding ofInt

@@ -19,7 +19,7 @@ fn write_safely(path: &str, form: &[u8]) -> io::Result<()> {
 }
 
 fn put_away(answers: u64, path: &str) -> Result<(), Trouble> {
-    let (mut run, mut reply) = start_day(false)?;
+    let (mut run, mut reply, _) = start_day(false)?;
     for _ in 0..answers {
         if let Reply::Ask { number, r, .. } = reply {
             reply = run.answer(number, force(r), &mut [])?;
@@ -55,7 +55,7 @@ fn tell_end(end: &Finished) {
 /// What the words of the command line ask for; `None` for words that are none.
 fn follow(words: &[&str]) -> Option<Result<(), Trouble>> {
     match words {
-        [] => Some(start_day(false).map_err(Trouble::from).and_then(|(run, _)| fly_on(run))),
+        [] => Some(start_day(false).map_err(Trouble::from).and_then(|(run, _, _)| fly_on(run))),
         ["put", answers, path] => answers.parse().ok().map(|answers| put_away(answers, path)),
         ["take", path] => Some(take_up(path)),
         _ => None,

@@ -6,9 +6,8 @@ mod print;
 mod station;
 
 pub use away::away_main;
-use gauss_jackson::{numbers_for, Finished, Refusal, Reply, Run, Sample, Settings, State, Triple};
+use gauss_jackson::{Cost, Refusal, Reply, Run, Sample, Settings, State, Triple};
 
-const STEPS: usize = 1440;
 const ROWS: usize = 24;
 const DAY: f64 = 86400.0;
 const MU: f64 = 398600.4418;
@@ -34,21 +33,14 @@ fn force(r: Triple) -> Triple {
     Triple { x: (-MU * r.x) / cube, y: (-MU * r.y) / cube, z: (-MU * r.z) / cube }
 }
 
-/// The run of a day, with its first question.
-fn start_day(samples: bool) -> Result<(Run, Reply), Refusal> {
+/// The run of a day, with its first question and, since its times are whole, what it takes.
+fn start_day(samples: bool) -> Result<(Run, Reply, Cost), Refusal> {
     let speed = (MU / RADIUS).sqrt();
     let r0 = Triple { x: RADIUS, y: 0.0, z: 0.0 };
     let v0 = Triple { x: 0.0, y: speed * INCLINATION.0, z: speed * INCLINATION.1 };
     // The default step is 60. Samples are off unless asked for, and the slice is then left alone.
     let settings = Settings { samples, ..Settings::default() };
-    Run::start(settings, 0.0, DAY, r0, v0)
-}
-
-/// Fills the samples, one for each step and one for the start, and tells the finished state. The library has no force of its own: it
-/// asks, here by `drive`, for one after another; an app that answers at its own pace uses `Run::answer`.
-fn carry_forward(samples: &mut [f64]) -> Result<Finished, Refusal> {
-    let (mut run, _) = start_day(true)?;
-    run.drive(|_t, r, _v| force(r), samples)
+    Run::start_whole(settings, 0.0, DAY, r0, v0)
 }
 
 /// Once an hour, and half a minute past: between two samples. The times are in the order of the flight, as a batch must have them.
@@ -73,10 +65,16 @@ enum Form {
     Bits,
 }
 
+/// The start tells how much room the samples take. The library has no force of its own: it asks, here by `drive`, for one acceleration after
+/// another; an app that answers at its own pace uses `Run::answer`.
 fn tell(form: Form) -> Result<(), Refusal> {
-    let mut samples = vec![0.0; numbers_for(STEPS)];
+    let (mut run, _, cost) = start_day(true)?;
+    if matches!(form, Form::Table) {
+        print::cost(&cost);
+    }
+    let mut samples = vec![0.0; cost.numbers];
     // A refusal has ended the run, and goes to the caller with its text; past this line the run has finished.
-    let end = carry_forward(&mut samples)?;
+    let end = run.drive(|_t, r, _v| force(r), &mut samples)?;
     match form {
         Form::Table => print::table(&end, Sample::view(&samples), &read_off(&samples)?),
         Form::Csv => print::csv(Sample::view(&samples)),

@@ -1,8 +1,14 @@
 // SPDX-License-Identifier: MIT OR Apache-2.0
-//! The table for people, the rows for other programs, and the bits for comparison.
+//! What the flight takes and the table for people, the rows for other programs, and the bits for comparison.
 use crate::station::range_to;
 use crate::{distance, Row, EARTH};
-use gauss_jackson::{Finished, Sample, State, Triple, SAMPLE_NUMBERS};
+use gauss_jackson::{Cost, Finished, Sample, State, Triple, SAMPLE_NUMBERS};
+
+/// Said before the flight begins.
+pub(crate) fn cost(cost: &Cost) {
+    let Cost { steps, samples, numbers, least, most } = cost;
+    println!("This takes {steps} steps, room for {samples} samples ({numbers} numbers) and {least} to {most} answers.\n");
+}
 
 fn row(t: f64, at: &State) {
     let s = t as u64;

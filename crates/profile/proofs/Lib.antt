@@ -1,0 +1,8 @@
+pub mod Judging
+pub mod Exactly
+pub mod Apart
+pub mod Counts
+pub mod Plainly
+pub mod Forecasts
+pub mod Promise
+pub mod Rows

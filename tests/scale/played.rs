@@ -1,0 +1,199 @@
+// SPDX-License-Identifier: MIT OR Apache-2.0
+//! Whole-second runs played to their end, with accelerations of any kind and no more room than was told: each ends as told beforehand.
+use crate::case::Case;
+use crate::check::{holds, same, Verdict};
+use crate::costs::{forecast, Start, Whole};
+use crate::follow::{answer, check_ended, is_refused};
+use crate::force::{Source, V3};
+use crate::random::Random;
+use crate::raw::{Cost, Reply, Triple};
+use crate::record::Record;
+use crate::room::Room;
+use crate::tally::Tally;
+use crate::whole::Begun;
+
+const SPECIAL: [f64; 8] = [f64::NAN, f64::INFINITY, f64::NEG_INFINITY, f64::MAX, -1e200, 5e-324, 0.0, -0.0];
+
+/// What answers the questions of a run.
+enum Pull {
+    /// Nothing pulls.
+    None,
+    /// Towards zero, so weakly that the steps are short beside a swing.
+    Weak(f64),
+    /// The same, with a special number now and then.
+    Disturbed(f64),
+    Special,
+    /// Any finite size, or any bits at all.
+    AnySize,
+    AnyBits,
+    /// The case's own force.
+    Own(Source),
+}
+
+impl Pull {
+    fn of(case: &Case, step: i128, rng: &mut Random) -> Pull {
+        let weak = 10f64.powi(-(rng.below(8) as i32)) / (step as f64 * step as f64);
+        match rng.below(10) {
+            0 => Pull::None,
+            1..=3 => Pull::Weak(weak),
+            4 => Pull::Disturbed(weak),
+            5 => Pull::Special,
+            6 => Pull::AnySize,
+            7 => Pull::AnyBits,
+            _ => Pull::Own(Source::new(case.force, case.p)),
+        }
+    }
+
+    fn on(&mut self, asked: &Reply, rng: &mut Random) -> Triple {
+        let (r, v) = (asked.r, asked.v);
+        let each = |of: &mut dyn FnMut(f64) -> f64| Triple { x: of(r.x), y: of(r.y), z: of(r.z) };
+        match self {
+            Pull::None => Triple::default(),
+            Pull::Weak(k) => each(&mut |x| -*k * x),
+            Pull::Disturbed(k) => each(&mut |x| if rng.once_in(40) { rng.pick(&SPECIAL) } else { -*k * x }),
+            Pull::Special => each(&mut |_| rng.pick(&SPECIAL)),
+            Pull::AnySize => each(&mut |_| rng.unit() * 10f64.powi(rng.below(616) as i32 - 308)),
+            Pull::AnyBits => each(&mut |_| f64::from_bits(rng.bits())),
+            Pull::Own(source) => {
+                let a = source.answer(asked.t, &V3::from_array([r.x, r.y, r.z]), &V3::from_array([v.x, v.y, v.z]));
+                Triple { x: a[0], y: a[1], z: a[2] }
+            }
+        }
+    }
+}
+
+struct Play {
+    begun: Begun,
+    pull: Pull,
+    room: Room,
+    /// Whether the room is one number short.
+    is_short: bool,
+    /// Samples that stand in the room, and answers accepted.
+    written: usize,
+    answers: u64,
+}
+
+impl Play {
+    fn new(begun: Begun, case: &Case, rng: &mut Random) -> Play {
+        let is_short = begun.cost.numbers > 0 && rng.once_in(4);
+        let room = Room::new(rng, begun.cost.numbers as usize - usize::from(is_short));
+        let pull = Pull::of(case, begun.whole.step, rng);
+        Play { begun, pull, room, is_short, written: 0, answers: 0 }
+    }
+
+    /// An answer under another number: 8, and nothing moves.
+    fn answer_wrongly(&mut self, asked: &Reply, rng: &mut Random, tally: &mut Tally) -> Verdict {
+        let before = self.begun.run.clone();
+        let other = asked.number.wrapping_add(1 + rng.below(65535) as u16);
+        let reply = answer(&mut self.begun.run, other, Triple::default(), &mut self.room);
+        tally.refused[8] += 1;
+        tally.wholes.played.wrong_numbers += 1;
+        holds(is_refused(&reply, 8) && before.0 == self.begun.run.0, "refusal 8 was due, and the same run")?;
+        self.room.is_as_expected(10 * self.written)
+    }
+
+    fn answer(&mut self, asked: &Reply, rng: &mut Random, tally: &mut Tally) -> Verdict<Reply> {
+        let before = self.is_short.then(|| self.begun.run.clone());
+        let a = self.pull.on(asked, rng);
+        let mut reply = answer(&mut self.begun.run, asked.number, a, &mut self.room);
+        if let (Some(before), 1 | 2) = (before, reply.kind) {
+            self.lacks_room(&reply, rng, tally)?;
+            self.begun.run = before;
+            reply = answer(&mut self.begun.run, asked.number, a, &mut self.room);
+        }
+        self.answers += 1;
+        if self.take_samples(asked, a)? || rng.once_in(16) {
+            self.room.is_as_expected(10 * self.written)?;
+        }
+        Ok(reply)
+    }
+
+    /// With one number too few, 6 at the last sample and not before; then a room as told.
+    fn lacks_room(&mut self, reply: &Reply, rng: &mut Random, tally: &mut Tally) -> Verdict {
+        tally.refused[6] += 1;
+        tally.wholes.played.short_rooms += 1;
+        holds(is_refused(reply, 6), format_args!("kind {}, {}, where the room is one number short", reply.kind, reply.refusal))?;
+        holds(self.written as u64 + 1 == self.begun.cost.samples, format_args!("refusal 6 after {} samples", self.written))?;
+        self.room.whole_is_as_expected()?;
+        check_ended(&mut self.begun.run, rng, tally)?;
+        self.room = Room::new(rng, self.begun.cost.numbers as usize);
+        self.is_short = false;
+        Ok(())
+    }
+
+    /// The samples that an answer wrote, none, the startup's five or one: each at its time, and after the startup with the answer itself.
+    fn take_samples(&mut self, asked: &Reply, a: Triple) -> Verdict<bool> {
+        let first = self.written;
+        if !self.room.is_changed(10 * first, 10 * first + 10) {
+            return Ok(false);
+        }
+        let count = if first == 0 { 5 } else { 1 };
+        for n in first..first + count {
+            let ten = self.room.numbers(10 * n, 10 * n + 10);
+            let time = self.begun.whole.time(n);
+            holds(ten[0] == time, format_args!("sample {n} stands at {}, not at {time}", ten[0]))?;
+            let own = same(ten[0], asked.t) && same(ten[7], a.x) && same(ten[8], a.y) && same(ten[9], a.z);
+            holds(n <= 4 || own, format_args!("sample {n} is not of answer {}", self.answers))?;
+            self.room.accept(format_args!("sample {n}"), 10 * n, &ten)?;
+        }
+        self.written += count;
+        Ok(true)
+    }
+
+    fn end(&mut self, reply: &Reply, rng: &mut Random, tally: &mut Tally) -> Verdict {
+        let Begun { start, whole, cost, run, .. } = &mut self.begun;
+        ends_as_told(start, whole, cost, reply)?;
+        holds(reply.evals == self.answers, format_args!("{} answers told, {} accepted", reply.evals, self.answers))?;
+        holds(self.written as u64 == cost.samples, format_args!("{} samples written of {}", self.written, cost.samples))?;
+        self.room.whole_is_as_expected()?;
+        tally.wholes.played.count(cost, reply);
+        check_ended(run, rng, tally)
+    }
+}
+
+/// To the end, by no more answers than were told.
+pub fn play(begun: Begun, case: &Case, rng: &mut Random, tally: &mut Tally) -> Verdict {
+    let mut reply = begun.reply;
+    let mut play = Play::new(begun, case, rng);
+    while reply.kind == 0 {
+        holds(play.answers < play.begun.cost.most, "a run goes on after as many answers as were told at most")?;
+        if rng.once_in(64) {
+            play.answer_wrongly(&reply, rng, tally)?;
+        }
+        reply = play.answer(&reply, rng, tally)?;
+    }
+    play.end(&reply, rng, tally)
+}
+
+/// A finished state: at the end, in the steps told and by answers within the bounds, of its own startup too; no size is below a tolerance that is not
+/// above zero, and then all passes and corrections are made.
+fn ends_as_told(start: &Start, whole: &Whole, cost: &Cost, reply: &Reply) -> Verdict {
+    let s = &start.settings;
+    holds(reply.kind == 1 && reply.refusal == 0 && reply.number == 0, format_args!("kind {}, {}, at the end", reply.kind, reply.refusal))?;
+    holds(reply.t == start.tf, format_args!("a whole-second run ends at {}", reply.t))?;
+    holds(reply.steps == cost.steps, format_args!("{} steps were made, {} told", reply.steps, cost.steps))?;
+    let (passes, answers) = (reply.startup_iters, i128::from(reply.evals));
+    let (least, most) = whole.answers(s, passes);
+    let within = least <= answers && answers <= most && cost.least <= reply.evals && reply.evals <= cost.most;
+    holds(within, format_args!("{answers} answers after {passes} passes, and told {cost:?}"))?;
+    let made = s.max_startup_iters.min(1) <= passes && passes <= s.max_startup_iters;
+    holds(made, format_args!("{passes} startup passes"))?;
+    let unbounded = !(s.startup_tol > 0.0) && !(s.corrector_tol > 0.0);
+    let all = passes == s.max_startup_iters && reply.evals == cost.most;
+    holds(all || !unbounded, format_args!("{answers} answers, where no tolerance cuts them short, and told {cost:?}"))
+}
+
+/// A case whose start the profile takes too: its run, which went as the module's, ends as told, with samples at whole times.
+pub fn own_run(case: &Case, record: &Record, reply: &Reply, tally: &mut Tally) -> Verdict {
+    let start = Start::of(case);
+    let (whole, cost) = match (Whole::of(&start), forecast(&start)) {
+        (Some(whole), Ok(cost)) => (whole, cost),
+        _ => return Ok(()),
+    };
+    ends_as_told(&start, &whole, &cost, reply)?;
+    let times: Vec<f64> = record.samples.iter().flatten().map(|ten| ten[0]).collect();
+    let all = times.len() as u64 == cost.samples && times.iter().enumerate().all(|(n, t)| *t == whole.time(n));
+    holds(all, "the samples of a whole-second run are not where they were told")?;
+    tally.wholes.count_own(case);
+    Ok(())
+}
