@@ -34,11 +34,11 @@ static void extent_of_a_start(void) {
     check(same_run((gj_run *)low, (gj_run *)high), "what stood there before makes no difference");
 }
 
-/* With every refusal that a whole-second start gives, against a refused plain one. */
+/* With every refusal that a whole-second start gives, against a refused plain one: nothing of what was asked for is kept. */
 static void ended_runs(void) {
-    static const struct { double tf, h; uint64_t max_steps; uint32_t refusal; } starts[] = {
-        {8.0, 1.0, 1000001, GJ_SETTING}, {NAN, 1.0, 8, GJ_BLANK_DATE},   {8.5, 1.0, 8, GJ_NOT_WHOLE},
-        {8.0, 0.0, 8, GJ_NOT_WHOLE},     {7.0, 1.0, 8, GJ_STEP_NOT_FINITE}, {8.0, 1.0, 7, GJ_TOO_FEW_STEPS},
+    static const struct { double tf, h; uint64_t max_steps; int refusal; } starts[] = {
+        {13.0, 1.0, 1000001, GJ_SETTING}, {NAN, 1.0, 8, GJ_BLANK_DATE}, {13.5, 1.0, 8, GJ_NOT_WHOLE}, {13.0, 0.0, 8, GJ_NOT_WHOLE},
+        {12.0, 1.0, 8, GJ_STEP_NOT_FINITE}, {13.0, 1.0, 7, GJ_TOO_FEW_STEPS},
     };
     for (size_t i = 0; i < sizeof starts / sizeof *starts; i++) {
         gj_run ended, whole;
@@ -47,7 +47,7 @@ static void ended_runs(void) {
         memset(&whole, 0xEE, sizeof whole);
         check(refused(gj_start(&ended, s, 0.0, 0.0, R0, V0), GJ_STEP_NOT_FINITE), "a refused plain start");
         s.h = starts[i].h, s.max_steps = starts[i].max_steps;
-        check(refused(gj_start_whole(&whole, s, 0.0, starts[i].tf, R0, V0).reply, (int)starts[i].refusal), "a refused whole-second start");
+        check(refused(gj_start_whole(&whole, s, 5.0, starts[i].tf, R0, V0).reply, starts[i].refusal), "a refused whole-second start");
         check(same_run(&whole, &ended), "both leave the same run");
     }
 }

@@ -51,14 +51,15 @@ fn step(rng: &mut Random) -> i128 {
     }
 }
 
-/// From none to more than any setting allows.
+/// From none to more than any setting allows; few again, where a count is cut to 16 or 32 bits.
 fn steps(rng: &mut Random) -> i128 {
-    match rng.below(10) {
-        0 => of_any_size(rng, 8),
-        1..=3 => 7 + of_any_size(rng, 3),
-        4 | 5 => 8 + of_any_size(rng, 300),
-        6 => 999_990 + i128::from(rng.below(20)),
-        7 => of_any_size(rng, 1_000_000),
+    match rng.below(20) {
+        0 | 1 => of_any_size(rng, 8),
+        2..=7 => 7 + of_any_size(rng, 3),
+        8..=11 => 8 + of_any_size(rng, 300),
+        12 | 13 => 999_990 + i128::from(rng.below(20)),
+        14 | 15 => of_any_size(rng, 1_000_000),
+        16 => rng.pick(&[1 << 16, 1 << 31, 1 << 32, 1 << 33]) + of_any_size(rng, 300),
         _ => of_any_size(rng, FARTHEST),
     }
 }
@@ -140,8 +141,8 @@ fn settings(rng: &mut Random) -> Settings {
         h: 0.0,
         corrector_tol: tolerance(rng),
         startup_tol: tolerance(rng),
-        max_corrector_iters: rng.pick(&[0, 1, 2, 2, 3, 4, corrector, 100]),
-        max_startup_iters: rng.pick(&[0, 1, 2, 3, 12, startup, 100]),
+        max_corrector_iters: rng.pick(&[0, 1, 1, 2, 2, 2, 3, 4, 6, corrector, 100]),
+        max_startup_iters: rng.pick(&[0, 0, 1, 1, 2, 3, 4, 6, 12, startup, 100]),
         max_steps: 1_000_000,
         samples: rng.below(2) as u8,
     };

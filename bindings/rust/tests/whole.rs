@@ -50,7 +50,7 @@ fn short_runs() {
 fn refusals_come_in_their_order() {
     let settings = Settings { h: 2.5, max_steps: 1_000_001, ..PLAIN };
     assert_eq!(told(settings, f64::NAN, 7.0), Err(Refusal::Setting));
-    let settings = Settings { max_steps: 7, ..settings };
+    let settings = Settings { max_steps: 2, ..settings };
     assert_eq!(told(settings, f64::NAN, 7.0), Err(Refusal::BlankDate));
     assert_eq!(told(settings, 0.0, 7.0), Err(Refusal::NotWhole));
     let settings = Settings { h: 1.0, ..settings };
@@ -123,7 +123,8 @@ type Force = fn(f64, Triple, Triple) -> Triple;
 
 #[test]
 fn it_finishes_within_its_cost_whatever_the_force_says() {
-    let forces: [Force; 4] = [force, |_, _, _| Triple::default(), |_, _, _| Triple::from([f64::NAN; 3]), |t, _, _| Triple::from([t * 1e300; 3])];
+    let forces: [Force; 4] =
+        [force, |_, _, _| Triple::default(), |_, _, _| Triple::from([f64::NAN; 3]), |t, _, _| Triple::from([t * 1e300; 3])];
     for (settings, t0, tf) in several() {
         for force in forces {
             let (mut run, _, cost) = start_whole(settings, t0, tf).unwrap();

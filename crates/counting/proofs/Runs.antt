@@ -1,5 +1,5 @@
 -- Demand 3 of runs, from the theorem on trees and from `follows-the-rules`.
-use mathlib.Core.Path.{sym, ap, _∙_, subst}
+use mathlib.Core.Path.{_≡_, sym, ap, _∙_, subst}
 use Prim.Native.Nat.{ℕ, _≤_, _<_}
 use native.Mathlib.Omega.{arith}
 use mathlib.Core.List.{List, []}
@@ -7,18 +7,44 @@ use lib.IntN.{ℤ, natAbs}
 use lib.Ieee.{Float}
 use Rattle.triple.specs.declared.Triple.{Triple}
 use Rattle.plan.specs.declared.Settings.{Settings}
+use Rattle.plan.specs.declared.Plan.{Plan}
+use Rattle.plan.specs.declared.Verdict.the-variants.{Fine}
 use Rattle.plan.specs.Plan.{planOf}
+use Rattle.plan.specs.Verdict.{verdictOn}
 use Rattle.rules.specs.Rules.{integrate}
 use Rattle.gauss_jackson.specs.Answers.{started}
-use Rattle.rules.specs.Walk.{Call, Stop, settle, walk}
+use Rattle.rules.specs.Walk.{question, told, Call, Result, Stop, settle, walk}
 use Rattle.rules.specs.Follows.{played}
 use Rattle.rules.proofs.Follows.{follows-the-rules}
-use Rattle.counting.specs.Paths.{Always}
+use Rattle.counting.specs.Paths.{Claims, Always}
 use Rattle.counting.specs.Counting.{spanOf, mostFor, mostBefore, Bounds, OnTime, onTime}
-use Rattle.counting.specs.Runs.{Going, answersIn, Roomy, roomFor, FinishesOnTime}
+use Rattle.counting.specs.Runs.{Going, answersIn, Finishes, Roomy, roomFor, FinishesOnTime}
 use Rattle.counting.proofs.OnTime.{ends-on-time}
 use Rattle.counting.proofs.Lines.{Limits, going, finishing}
 use Rattle.counting.proofs.Starts.{accepted-start}
+
+-- an accepted start whose tree bears any claims out, with at most E answers and N samples: so does every line of calls with room
+module _ (s : Settings) (t0 tf : Float) (r0 v0 : Triple) (accepted : verdictOn (planOf s t0 tf) ≡ Fine)
+    (c : Claims) (E N : ℕ) (l : Limits c E N) (always : Always c 0 0 (integrate (planOf s t0 tf) r0 v0)) where
+  abbrev results : List Call → List Result
+  results cs = played (started s t0 tf r0 v0 .run) cs
+
+  pub line-begins : told (started s t0 tf r0 v0 .outcome) ≡ question 0 (record { t = t0; r = r0; v = v0 })
+  unfolding settle integrate planOf
+  line-begins = follows-the-rules s t0 tf r0 v0 [] .first ∙ ap (λ (x : Stop). x .said) (accepted-start s t0 tf r0 v0 accepted)
+
+  walks : (cs : List Call) → Roomy N cs → Going c E 0 0 0 cs (walk (settle (integrate (planOf s t0 tf) r0 v0) 0 0 [] .line) cs)
+  unfolding settle integrate Always
+  walks cs r = going c E N l 0 0 0 _ _ cs always r
+
+  pub line-goes : (cs : List Call) → Roomy N cs → Going c E 0 0 0 cs (results cs)
+  line-goes cs r =
+      subst (Going c E 0 0 0 cs)
+      (sym (follows-the-rules s t0 tf r0 v0 cs .then ∙ ap (λ (x : Stop). walk (x .line) cs) (accepted-start s t0 tf r0 v0 accepted)))
+      (walks cs r)
+
+  pub line-ends : 0 < E → (cs : List Call) → Roomy N cs → E ≤ answersIn 0 cs (results cs) → Finishes (results cs)
+  line-ends some cs r u = finishing c E N l 0 0 0 cs (results cs) (line-goes cs r) some (omega arith)
 
 module _ {s : Settings} {t0 tf : Float} {z0 zf hz : ℤ} (b : Bounds s t0 tf z0 zf hz) (r0 v0 : Triple) where
   limits : Limits (onTime s t0 tf z0 zf (natAbs hz)) (mostBefore s (spanOf z0 zf) (natAbs hz)) (roomFor s (spanOf z0 zf) (natAbs hz))
@@ -30,29 +56,19 @@ module _ {s : Settings} {t0 tf : Float} {z0 zf hz : ℤ} (b : Bounds s t0 tf z0 
         never = λ (e n : ℕ) (f : ⊥). f;
       }
 
-  lines : (cs : List Call) → Roomy (roomFor s (spanOf z0 zf) (natAbs hz)) cs
-      → Going (onTime s t0 tf z0 zf (natAbs hz)) (mostBefore s (spanOf z0 zf) (natAbs hz)) 0 0 0 cs (walk (settle (integrate (planOf s t0 tf) r0 v0) 0 0 [] .line) cs)
-  unfolding settle integrate Always
-  lines cs r =
-      going (onTime s t0 tf z0 zf (natAbs hz)) (mostBefore s (spanOf z0 zf) (natAbs hz)) (roomFor s (spanOf z0 zf) (natAbs hz)) limits 0 0 0
-      _ _ cs (ends-on-time b r0 v0 .always) r
-
   -- more than 40 answers are due, since the startup alone takes 41
-  some : 0 < mostBefore s (spanOf z0 zf) (natAbs hz)
+  pub some-answers : 0 < mostBefore s (spanOf z0 zf) (natAbs hz)
   unfolding mostBefore mostFor
-  some = omega arith
+  some-answers = omega arith
 
   pub finishes-on-time : (cs : List Call) → Roomy (roomFor s (spanOf z0 zf) (natAbs hz)) cs → FinishesOnTime s t0 tf z0 zf hz r0 v0 cs
-  unfolding settle integrate planOf
   finishes-on-time cs r =
-      let e = accepted-start s t0 tf r0 v0 (ends-on-time b r0 v0 .accepted) in
-      let f = follows-the-rules s t0 tf r0 v0 cs in
-      let one = f .first ∙ ap (λ (x : Stop). x .said) e in
-      let all = subst (Going (onTime s t0 tf z0 zf (natAbs hz)) (mostBefore s (spanOf z0 zf) (natAbs hz)) 0 0 0 cs)
-      (sym (f .then ∙ ap (λ (x : Stop). walk (x .line) cs) e)) (lines cs r) in
+      let x = ends-on-time b r0 v0 in
+      let most = mostBefore s (spanOf z0 zf) (natAbs hz) in
+      let room = roomFor s (spanOf z0 zf) (natAbs hz) in
+      let claims = onTime s t0 tf z0 zf (natAbs hz) in
       record {
-        first = one;
-        then = all;
-        ends = λ (u : mostBefore s (spanOf z0 zf) (natAbs hz) ≤ answersIn 0 cs (played (started s t0 tf r0 v0 .run) cs)).
-            finishing (onTime s t0 tf z0 zf (natAbs hz)) (mostBefore s (spanOf z0 zf) (natAbs hz)) (roomFor s (spanOf z0 zf) (natAbs hz)) limits 0 0 0 cs _ all some (omega arith);
+        first = line-begins s t0 tf r0 v0 (x .accepted) claims most room limits (x .always);
+        then = line-goes s t0 tf r0 v0 (x .accepted) claims most room limits (x .always) cs r;
+        ends = line-ends s t0 tf r0 v0 (x .accepted) claims most room limits (x .always) some-answers cs r;
       }

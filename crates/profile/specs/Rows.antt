@@ -74,6 +74,14 @@ someRows =
     ∷ row (set (int (pos 2)) 0 0) (int (pos 0)) (int (pos 15)) (Refused StepNotFinite)
     ∷ []
 
-unfoldable pub AllForesee : List Row → Type 0
-AllForesee [] = Unit {0}
-AllForesee (r ∷ rs) = (forecastOf (r .settings) (r .t0) (r .tf) ≡ r .expected) × AllForesee rs
+-- what is told of each row, and what must be
+unfoldable pub toldOf : List Row → List Foreseen
+toldOf [] = []
+toldOf (r ∷ rs) = forecastOf (r .settings) (r .t0) (r .tf) ∷ toldOf rs
+
+unfoldable pub dueOf : List Row → List Foreseen
+dueOf [] = []
+dueOf (r ∷ rs) = r .expected ∷ dueOf rs
+
+abbrev pub Rows : Type 0
+Rows = toldOf someRows ≡ dueOf someRows
