@@ -20,6 +20,7 @@ use Rattle.whole.proofs.Quotient.{below-eight-steps}
 use Rattle.counting.specs.Counting.{spanOf}
 use Rattle.profile.specs.Wholes.{wholeOf, isWholeTime, isWholeStep, areWhole}
 use Rattle.profile.specs.Costs.{spanIn, stepIn}
+use Rattle.profile.specs.Promise.{SameOne}
 use Rattle.profile.proofs.Exactly.{Sound, step-tests, step-holds, step-is-time}
 use Rattle.profile.proofs.Apart.{span-small, span-holds}
 
@@ -77,10 +78,13 @@ module _ (s : Settings) (t0 tf : Float) (f : Double t0) (g : Double tf) (k : Dou
       ap (λ (c : Bool). c || lt (absolute (div binary64 (sub binary64 tf t0) y)) (ofInt binary64 (pos 8))) (eq-whole Y nought-whole ∙ ne-eqb (0 + 0) (0 + H) (λ (e : 0 + 0 ≡ 0 + H). omega arith))
       ∙ below-eight-steps (natAbs d) H (span-holds t0 tf f g (w .start) (w .end)) Y (apart-is d) (omega arith) (omega arith) (omega arith)
 
-  pub same-one : isTooNear (planOf s t0 tf) ≡ ltb (spanIn t0 tf) (8 * stepIn s)
+  as-whole : isTooNear (planOf s t0 tf) ≡ ltb (spanIn t0 tf) (8 * stepIn s)
   unfolding isTooNear planOf spanIn spanOf stepIn
-  same-one = by-step (mul binary64 (absolute (s .h)) (directionOf t0 tf)) (step-is (s .h) t0 tf H (abs-int (wholeOf (s .h)) (step-holds (s .h) k (w .step) .holds)) (w .slow))
+  as-whole = by-step (mul binary64 (absolute (s .h)) (directionOf t0 tf)) (step-is (s .h) t0 tf H (abs-int (wholeOf (s .h)) (step-holds (s .h) k (w .step) .holds)) (w .slow))
 
-  -- what is not too near is eight steps away
-  pub far : isTooNear (planOf s t0 tf) ≡ false → 8 * stepIn s ≤ spanIn t0 tf
-  far h = ltb-false (spanIn t0 tf) (8 * stepIn s) (sym same-one ∙ h)
+pub same-one : SameOne
+same-one s t0 tf f g k e = as-whole s t0 tf f g k e
+
+-- what is not too near is eight steps away
+pub far : (s : Settings) (t0 tf : Float) → Double t0 → Double tf → Double (s .h) → areWhole t0 tf (s .h) ≡ true → isTooNear (planOf s t0 tf) ≡ false → 8 * stepIn s ≤ spanIn t0 tf
+far s t0 tf f g k e h = ltb-false (spanIn t0 tf) (8 * stepIn s) (sym (same-one s t0 tf f g k e) ∙ h)

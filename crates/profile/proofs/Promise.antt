@@ -142,7 +142,7 @@ module _ (s : Settings) (t0 tf : Float) (r0 v0 : Triple) (b : Bounds s t0 tf (wh
   claims = asTold c (wholeOf t0) (wholeOf tf) (stepIn s)
 
   kept-promise : forecastOf s t0 tf ≡ Costs c → Keeps s t0 tf r0 v0 c
-  unfolding startedWhole wholeBy withCost
+  unfolding startedWhole wholeBy withCost costFor
   kept-promise h =
       let fine = ends-on-time b r0 v0 .accepted in
       let same : startedWhole s t0 tf r0 v0 ≡ withCost (started s t0 tf r0 v0) c = ap (λ (x : Foreseen). wholeBy x (started s t0 tf r0 v0)) h in
@@ -151,6 +151,7 @@ module _ (s : Settings) (t0 tf : Float) (r0 v0 : Triple) (b : Bounds s t0 tf (wh
         plainly = same;
         accepted = fine;
         asks = ap (λ (x : WholeStart). told (x .told .outcome)) same ∙ line-begins s t0 tf r0 v0 fine claims (c .most) (c .samples) limits all-kept;
+        room = refl;
         goes = λ (cs : List Call) (r : Roomy (c .samples) cs).
             subst (λ (x : Run). Going claims (c .most) 0 0 0 cs (played x cs)) run (line-goes s t0 tf r0 v0 fine claims (c .most) (c .samples) limits all-kept cs r);
         finishes = λ (cs : List Call) (r : Roomy (c .samples) cs).

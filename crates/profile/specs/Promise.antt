@@ -1,7 +1,7 @@
 -- W-206: "What it accepts, answered with room for the samples, always finishes; a plain start with the same values is accepted too, with the same
 -- questions." The proof is `keeps` in proofs/Promise.antt. And where a start is refused, how that stands to the plain start: `RefusesAlike`.
 use mathlib.Core.Path.{_≡_}
-use Prim.Native.Nat.{ℕ, _≤_, _<_}
+use Prim.Native.Nat.{ℕ, _*_, _≤_, _<_}
 use mathlib.Core.Bool.{true, false, cond}
 use mathlib.Core.List.{List}
 use lib.Dec.{ltb}
@@ -9,11 +9,12 @@ use lib.IntN.{ℤ}
 use lib.Ieee.{Float}
 use Rattle.triple.specs.declared.Triple.{Triple}
 use Rattle.triple.specs.Doubles.{Double}
+use Rattle.triple.specs.Sampled.{sampleWidth}
 use Rattle.refusals.specs.declared.Refusal.the-variants.{NotWhole, TooFewSteps}
 use Rattle.plan.specs.declared.Settings.{Settings}
 use Rattle.plan.specs.declared.Verdict.{Verdict}
 use Rattle.plan.specs.declared.Verdict.the-variants.{Fine, Refuse}
-use Rattle.plan.specs.Plan.{planOf}
+use Rattle.plan.specs.Plan.{planOf, isTooNear}
 use Rattle.plan.specs.Lawful.{isLawful}
 use Rattle.plan.specs.Verdict.{faultOf, verdictOn}
 use Rattle.gauss_jackson.specs.Answers.{started}
@@ -54,6 +55,8 @@ pub record Keeps (s : Settings) (t0 tf : Float) (r0 v0 : Triple) (c : Cost) : Ty
   pub plainly : startedWhole s t0 tf r0 v0 ≡ withCost (started s t0 tf r0 v0) c
   pub accepted : verdictOn (planOf s t0 tf) ≡ Fine
   pub asks : told (startedWhole s t0 tf r0 v0 .told .outcome) ≡ question 0 (record { t = t0; r = r0; v = v0 })
+  -- the room in numbers is that in samples
+  pub room : c .numbers ≡ sampleWidth * c .samples
   -- every list of calls with the room told, refused ones among them: nothing but questions, 8 to a wrong number, and the finished state as told
   pub goes : (cs : List Call) → Roomy (c .samples) cs
       → Going (asTold c (wholeOf t0) (wholeOf tf) (stepIn s)) (c .most) 0 0 0 cs (played (startedWhole s t0 tf r0 v0 .run) cs)
@@ -82,3 +85,9 @@ pub record RefusesAlike (s : Settings) (t0 tf : Float) : Type 0 where
       ≡ orElse (verdictOn (planOf s t0 tf)) (cond (ltb (s .«max_steps») (stepsFor (spanIn t0 tf) (stepIn s))) (Refused TooFewSteps) (Costs (costFor s (spanIn t0 tf) (stepIn s))))
   -- of others: 5 and 12 as the plain start, and 13
   pub others : areWhole t0 tf (s .h) ≡ false → forecastOf s t0 tf ≡ cond (isLawful (planOf s t0 tf)) (Refused NotWhole) (Refused (faultOf (planOf s t0 tf)))
+
+-- refusal 1's float test is here the test of whole numbers: the span is below eight steps; for all f64
+abbrev pub SameOne : Type 0
+SameOne =
+    (s : Settings) (t0 tf : Float) → Double t0 → Double tf → Double (s .h) → areWhole t0 tf (s .h) ≡ true
+    → isTooNear (planOf s t0 tf) ≡ ltb (spanIn t0 tf) (8 * stepIn s)

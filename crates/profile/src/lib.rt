@@ -61,17 +61,17 @@ pub fn forecast(settings: Settings, t0: f64, tf: f64) -> Foreseen
     ensures { λ x. ⌜ x ≡ forecastOf settings t0 tf ⌝ }
 {
     let plan = plan::plan_of(settings, t0, tf);
-    let within = limits::are_within_limits(settings);
-    let dated = limits::is_dated(plan);
-    let whole = wholes::are_whole(t0, tf, settings.h);
+    let over = !limits::are_within_limits(settings);
+    let blank = !limits::is_dated(plan);
+    let broken = !wholes::are_whole(t0, tf, settings.h);
     let near = plan::is_too_near(plan);
-    if !within {
+    if over {
         return Foreseen::Refused(Refusal::Setting);
     }
-    if !dated {
+    if blank {
         return Foreseen::Refused(Refusal::BlankDate);
     }
-    if !whole {
+    if broken {
         return Foreseen::Refused(Refusal::NotWhole);
     }
     let span = wholes::span_of(t0, tf);

@@ -7,7 +7,7 @@ use Rattle.app.proofs.replies.whole_reply_of.Tie as tie
 
 returns : tie.Need-returns
 unfolding wholeReplyOf
-returns c = rw (c .reply-of .ensures) refl
+returns c = rw (c .before .reply-of .ensures) refl
 
 pub whole-reply-of-spec : {M : Type 1} → statement M
 whole-reply-of-spec = tie.close (tie.spec (λ c κs. search needs) returns)
