@@ -14,4 +14,4 @@ unfolding costReplyOf
 returns-2 c = rw (c .before .before .before .forecast2 .given .1, c .before .no-cost .ensures, c .number-of .ensures) refl
 
 pub cost-reply-of-spec : {M : Type 1} → statement M
-cost-reply-of-spec = tie.close (tie.spec (λ c. search needs) (λ c. search needs) (λ c κs. search needs) (λ c κs. search needs) returns returns-2)
+cost-reply-of-spec = tie.close (tie.spec (λ c. search needs) (λ c. search needs) (λ c κs. search needs) (λ c κs. search needs) (λ c. search needs) returns returns-2)
