@@ -25,6 +25,7 @@ mod judge;
 mod layout;
 mod near;
 mod played;
+mod pull;
 mod questions;
 mod record;
 mod room;

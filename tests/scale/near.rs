@@ -37,19 +37,14 @@ fn next_wholes(x: f64) -> [f64; 2] {
 
 /// In the order of `MISSES`.
 pub fn misses(start: &Start, refusal: u16) -> [bool; 5] {
-    let whole = |is_near: fn(&Start, &Whole) -> bool| Whole::of(start).map_or(false, |whole| is_near(start, &whole));
-    match refusal {
-        13 => [
-            would_be_whole(start, next_doubles),
-            would_be_whole(start, |x| [x + 0.5, x - 0.5]),
-            would_be_whole(start, next_wholes),
-            false,
-            false,
-        ],
-        1 => [false, false, false, whole(|_, whole| whole.span() + 1 == 8 * whole.step), false],
-        14 => [false, false, false, false, whole(|start, whole| i128::from(start.settings.max_steps) + 1 == whole.steps())],
-        _ => [false; 5],
-    }
+    let by = |due: u16, is_near: &dyn Fn(&Whole) -> bool| refusal == due && Whole::of(start).map_or(false, |whole| is_near(&whole));
+    [
+        refusal == 13 && would_be_whole(start, next_doubles),
+        refusal == 13 && would_be_whole(start, |x| [x + 0.5, x - 0.5]),
+        refusal == 13 && would_be_whole(start, next_wholes),
+        by(1, &|whole| whole.span() + 1 == 8 * whole.step),
+        by(14, &|whole| i128::from(start.settings.max_steps) + 1 == whole.steps()),
+    ]
 }
 
 /// In the order of `MET`.

@@ -1,6 +1,6 @@
 // SPDX-License-Identifier: MIT OR Apache-2.0
-//! Random starts for the whole-second profile: whole numbers of all sizes, at the bounds and at eight steps too; then, of some, a date that is a little
-//! off, blank or anything, and settings over their limits.
+//! Random starts for the whole-second profile: whole numbers of all sizes, at the bounds and at eight steps too; then, in some, dates that are a
+//! little off, blank or anything, and settings over their limits.
 use crate::case::BLANKS;
 use crate::costs::{Start, Whole, FARTHEST, LONGEST};
 use crate::random::Random;
@@ -34,8 +34,9 @@ const EDGES: [f64; 22] = [
     f64::MAX,
 ];
 
-const TOLERANCES: [f64; 14] =
-    [0.0, -0.0, -1.0, f64::NEG_INFINITY, 5e-324, 1e-13, 1e-13, 1e-9, 1e-3, 1.0, 1e30, f64::MAX, f64::INFINITY, f64::NAN];
+/// None of these is above zero.
+const LOW_TOLERANCES: [f64; 5] = [0.0, -0.0, -1.0, f64::NEG_INFINITY, f64::NAN];
+const HIGH_TOLERANCES: [f64; 6] = [5e-324, 1e-13, 1.0, 1e30, f64::MAX, f64::INFINITY];
 
 /// Below the bound, of any number of bits.
 fn of_any_size(rng: &mut Random, bound: i128) -> i128 {
@@ -127,10 +128,11 @@ fn steps_allowed(rng: &mut Random, start: &Start) -> u64 {
 }
 
 fn tolerance(rng: &mut Random) -> f64 {
-    let any = f64::from_bits(rng.bits());
-    match rng.below(16) {
-        0 => any,
-        _ => rng.pick(&TOLERANCES),
+    match rng.below(8) {
+        0 => f64::from_bits(rng.bits()),
+        1 | 2 => rng.pick(&LOW_TOLERANCES),
+        3 | 4 => rng.pick(&HIGH_TOLERANCES),
+        _ => 10f64.powi(-(rng.below(17) as i32)),
     }
 }
 
@@ -147,7 +149,7 @@ fn settings(rng: &mut Random) -> Settings {
         samples: rng.below(2) as u8,
     };
     if rng.once_in(4) {
-        (settings.corrector_tol, settings.startup_tol) = (rng.pick(&TOLERANCES[..4]), rng.pick(&TOLERANCES[..4]));
+        (settings.corrector_tol, settings.startup_tol) = (rng.pick(&LOW_TOLERANCES), rng.pick(&LOW_TOLERANCES));
     }
     settings
 }
@@ -202,7 +204,7 @@ pub fn any(rng: &mut Random) -> Start {
     start
 }
 
-/// Settings for a run that is played to its end, with no fewer steps allowed than it takes.
+/// A start to be played to its end, with no fewer steps allowed than it takes.
 fn to_be_played(rng: &mut Random, settings: Settings, steps: u64) -> Start {
     let mut start = dated(rng, settings, i128::from(steps));
     let taken = steps_taken(&start);
@@ -219,7 +221,7 @@ pub fn short(rng: &mut Random) -> Start {
     to_be_played(rng, settings, few)
 }
 
-/// Thousands of steps.
+/// A thousand steps and more, and not many corrections.
 pub fn long(rng: &mut Random) -> Start {
     let (settings, steps, passes) = (settings(rng), 1001 + rng.below(3000), rng.below(4));
     to_be_played(rng, Settings { max_corrector_iters: passes, ..settings }, steps)

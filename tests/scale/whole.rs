@@ -14,7 +14,7 @@ use crate::tally::Tally;
 /// So many random starts go with each case, with one case in so many a run that is played to its end, and with every so many-th a long one.
 const STARTS: u64 = 12;
 const PLAYED: u64 = 4;
-const LONG: u64 = 256;
+const LONG_EVERY: u64 = 256;
 
 /// An accepted start.
 pub struct Begun {
@@ -38,7 +38,7 @@ pub fn compare(case: &Case, rng: &mut Random, tally: &mut Tally) -> Verdict {
     if rng.once_in(PLAYED) {
         play(starts::short(rng), case, rng, tally)?;
     }
-    if tally.cases % LONG == 0 {
+    if tally.cases % LONG_EVERY == 0 {
         play(starts::long(rng), case, rng, tally)?;
     }
     Ok(())

@@ -10,20 +10,21 @@ use std::fmt::Display;
 /// The refusals of a whole-second start, in the order in which they are judged.
 const REFUSALS: [u16; 5] = [5, 12, 13, 1, 14];
 
-/// A run of thousands of steps is a long one.
+/// A run of so many steps is a long one.
 const LONG: u64 = 1000;
 
 /// Runs played to their end, and the answers that they accepted, all within the bounds told beforehand.
 #[derive(Default)]
 pub struct Played {
-    pub runs: u64,
-    pub answers: u64,
-    /// Where the bounds differ: as many as were told at most, at least, and between.
+    runs: u64,
+    long: u64,
+    answers: u64,
+    samples: u64,
+    /// By their answers: as many as were told at most, at least, between, and where both bounds are one.
     at_most: u64,
     at_least: u64,
     between: u64,
-    long: u64,
-    pub samples: u64,
+    at_both: u64,
     /// Rooms that were one number short, and answers under a wrong number.
     pub short_rooms: u64,
     pub wrong_numbers: u64,
@@ -31,22 +32,23 @@ pub struct Played {
 
 impl Played {
     pub fn count(&mut self, cost: &Cost, reply: &Reply) {
-        let answers = reply.evals;
         self.runs += 1;
-        self.answers += answers;
-        self.samples += cost.samples;
         self.long += u64::from(cost.steps >= LONG);
-        if cost.least < cost.most {
-            let where_to = [(cost.most, &mut self.at_most), (cost.least, &mut self.at_least)];
-            let met = where_to.into_iter().find(|(bound, _)| *bound == answers);
-            *met.map_or(&mut self.between, |(_, count)| count) += 1;
-        }
+        self.answers += reply.evals;
+        self.samples += cost.samples;
+        *match (reply.evals == cost.least, reply.evals == cost.most) {
+            (true, true) => &mut self.at_both,
+            (true, false) => &mut self.at_least,
+            (false, true) => &mut self.at_most,
+            (false, false) => &mut self.between,
+        } += 1;
     }
 
     fn print(&self) {
-        println!("    {} runs played to their end, {} of them of {LONG} steps and more: {} answers, {} samples", self.runs, self.long, self.answers, self.samples);
-        println!("      answers at most {} times, at least {}, between {}", self.at_most, self.at_least, self.between);
-        println!("      {} rooms one number short, {} wrong numbers", self.short_rooms, self.wrong_numbers);
+        let Played { runs, long, answers, samples, at_most, at_least, between, at_both, short_rooms, wrong_numbers } = self;
+        println!("    {runs} runs played to their end, {long} of them of {LONG} steps and more: {answers} answers, {samples} samples");
+        println!("      within the bounds told: at the upper {at_most}, at the lower {at_least}, between {between}, where both are one {at_both}");
+        println!("      {short_rooms} rooms one number short, {wrong_numbers} wrong numbers");
     }
 
     fn is_enough(&self) -> bool {
@@ -102,7 +104,7 @@ impl Wholes {
         println!("    {accepted} accepted, without and with samples: {plain:?} without a tail, {tail:?} with one");
         println!("    just met: {}", named(&MET, &self.met));
         self.played.print();
-        println!("    {} of the cases' own runs, {} of them with a telling tolerance", self.own, self.own_telling);
+        println!("    {} of the cases' own runs ended as told, {} of them with a telling tolerance", self.own, self.own_telling);
     }
 
     pub fn every_kind_was_met(&self) -> Verdict {
