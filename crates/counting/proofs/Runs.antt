@@ -7,7 +7,6 @@ use lib.IntN.{ℤ, natAbs}
 use lib.Ieee.{Float}
 use Rattle.triple.specs.declared.Triple.{Triple}
 use Rattle.plan.specs.declared.Settings.{Settings}
-use Rattle.plan.specs.declared.Plan.{Plan}
 use Rattle.plan.specs.declared.Verdict.the-variants.{Fine}
 use Rattle.plan.specs.Plan.{planOf}
 use Rattle.plan.specs.Verdict.{verdictOn}

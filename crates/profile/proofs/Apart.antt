@@ -6,16 +6,16 @@ use native.Mathlib.Omega.{arith}
 use mathlib.Core.Bool.{Bool, true, false, cond}
 use lib.Dec.{T, lt→ltb}
 use lib.IntN.{ℤ, pos, negsuc, negℤ, natAbs, _-ℤ_}
-use lib.Ieee.{Float, fin, binary64, up, down, sub, lt, fits, toUnsigned}
+use lib.Ieee.{Float, fin, binary64, up, down, sub, fits, toUnsigned}
 use lib.Ieee.Fits.{down-pos}
 use lib.Ieee.Exact.{HasValue}
 use Rattle.triple.specs.Size.{absolute}
 use Rattle.triple.specs.Doubles.{Double}
 use Rattle.whole.proofs.Exact.{Is, Diff, lt-whole}
-use Rattle.whole.proofs.Integers.{plus, less, Holds, Within, within, wider, sum-parts, neg-parts, sub-int, abs-int}
+use Rattle.whole.proofs.Integers.{plus, less, Holds, within, wider, sum-parts, neg-parts, sub-int, abs-int}
 use Rattle.counting.specs.Counting.{spanOf}
 use Rattle.profile.specs.Wholes.{wholeOf, isWholeTime}
-use Rattle.profile.proofs.Exactly.{Sound, time-holds}
+use Rattle.profile.proofs.Exactly.{time-holds}
 use Rattle.profile.proofs.Judging.{Ranged}
 
 -- ---- a difference within 2^51

@@ -6,7 +6,7 @@ use native.Mathlib.Omega.{arith}
 use mathlib.Core.Bool.{Bool, true, false, cond}
 use borrow.Author.Tests.{lt-ltb, le-ltb}
 use Rattle.counting.specs.Counting.{stepsFor, tailFor}
-use Rattle.counting.proofs.Fates.{Reach, steps-reach}
+use Rattle.counting.proofs.Fates.{steps-reach}
 use Rattle.profile.specs.Sized.{Far}
 
 -- what is known of K

@@ -1,10 +1,10 @@
 -- `isWholeTime`, `isWholeStep` and `wholeOf` read an f64 as whole/specs/Whole.antt does: it is the whole number z, and z is within the bounds.
-use mathlib.Core.Path.{_≡_, refl, sym, ap, _∙_, subst}
-use Prim.Native.Nat.{ℕ, zero, suc, _+_, _*_, _/_, _%_, _^_, _≤_, _<_}
+use mathlib.Core.Path.{_≡_, refl, sym, ap, _∙_}
+use Prim.Native.Nat.{ℕ, zero, suc, _*_, _/_, _%_, _^_, _≤_, _<_}
 use native.Mathlib.Nat.{div-add-mod', mul-div-cancel, mul-mod-left}
 use native.Mathlib.Omega.{arith}
-use mathlib.Core.Bool.{Bool, true, false, _&&_, cond, false≢true}
-use lib.Dec.{T, leb, eqb}
+use mathlib.Core.Bool.{Bool, true, false, cond, false≢true}
+use lib.Dec.{leb}
 use lib.IntN.{ℤ, pos, negsuc, negℤ, natAbs}
 use lib.Ieee.{Float, nan, inf, fin, up, down}
 use lib.Ieee.Fits.{down-pos}
@@ -13,9 +13,9 @@ use borrow.Author.Tests.{le-leb, leb-true, eq-eqb, eqb-true}
 use Rattle.double.proofs.Booleans.{both}
 use Rattle.triple.specs.Doubles.{Double}
 use Rattle.whole.specs.Whole.{IsWhole}
-use Rattle.whole.proofs.Exact.{Is, Diff}
+use Rattle.whole.proofs.Exact.{Diff}
 use Rattle.whole.proofs.Integers.{plus, less, Holds, within, wider, read, write}
-use Rattle.profile.specs.Wholes.{wholeOf, isWhole, isWholeTime, isWholeStep, Exactly, AllExactly}
+use Rattle.profile.specs.Wholes.{wholeOf, isWhole, isWholeTime, isWholeStep, AllExactly}
 
 -- ---- from the test to the number
 signed : (s : Bool) (n : ℕ) → Diff s n (plus (cond s (negℤ (pos n)) (pos n))) (less (cond s (negℤ (pos n)) (pos n)))

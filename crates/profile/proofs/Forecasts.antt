@@ -1,8 +1,8 @@
 -- The forecast, test by test: 5, 12, 13, 1, 14.
-use mathlib.Core.Path.{_≡_, refl, sym, ap, _∙_}
-use Prim.Native.Nat.{ℕ, _*_, _≤_, _<_}
+use mathlib.Core.Path.{_≡_, sym, ap, _∙_}
+use Prim.Native.Nat.{ℕ, _≤_}
 use native.Mathlib.Omega.{arith}
-use mathlib.Core.Bool.{Bool, true, false, not, _&&_, cond}
+use mathlib.Core.Bool.{Bool, true, false, not, cond}
 use lib.Dec.{ltb}
 use lib.IntN.{natAbs}
 use lib.Ieee.{Float}
@@ -23,7 +23,7 @@ use Rattle.profile.specs.declared.Foreseen.the-variants.{Costs, Refused}
 use Rattle.profile.specs.Wholes.{wholeOf, areWhole}
 use Rattle.profile.specs.Costs.{spanIn, stepIn, costFor, forecastOf}
 use Rattle.profile.specs.Sized.{Sized, Far}
-use Rattle.profile.proofs.Plainly.{Three, three, far}
+use Rattle.profile.proofs.Plainly.{three, far}
 
 -- a test that the code made: x is what it has, y what the definition says
 pub holds : (x y : Bool) → x ≡ y → not x ≡ false → y ≡ true

@@ -1,7 +1,7 @@
 -- Of whole numbers within the bounds refusal 1 is a test of whole numbers: span/h, rounded, is below 8 exactly where the span is below eight steps.
 use mathlib.Core.Path.{_≡_, sym, ap, _∙_}
 use mathlib.Core.Logic.{_⊎_, inl, inr}
-use Prim.Native.Nat.{ℕ, _+_, _*_, _^_, _≤_, _<_, min, max}
+use Prim.Native.Nat.{ℕ, _+_, _*_, _^_, _≤_, min, max}
 use native.Mathlib.Omega.{arith}
 use mathlib.Core.Bool.{Bool, true, false, _||_, cond}
 use lib.Dec.{ltb}
@@ -21,8 +21,8 @@ use Rattle.counting.specs.Counting.{spanOf}
 use Rattle.profile.specs.Wholes.{wholeOf, isWholeTime, isWholeStep, areWhole}
 use Rattle.profile.specs.Costs.{spanIn, stepIn}
 use Rattle.profile.specs.Promise.{SameOne}
-use Rattle.profile.proofs.Exactly.{Sound, step-tests, step-holds, step-is-time}
-use Rattle.profile.proofs.Apart.{span-small, span-holds}
+use Rattle.profile.proofs.Exactly.{step-tests, step-holds}
+use Rattle.profile.proofs.Apart.{span-holds}
 
 -- what three whole numbers are
 pub record Three (t0 tf h : Float) : Type 0 where

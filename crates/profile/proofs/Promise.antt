@@ -1,11 +1,10 @@
 -- What the profile accepts is within 01's bounds, and so what it told is kept; what it refuses stands as said to the plain start.
 use mathlib.Core.Path.{_≡_, refl, sym, ap, _∙_, subst}
-use Prim.Native.Nat.{ℕ, _+_, _*_, _^_, _≤_, _<_}
+use Prim.Native.Nat.{ℕ, _+_, _≤_, _<_}
 use native.Mathlib.Omega.{arith}
-use mathlib.Core.Bool.{Bool, true, false, not, _&&_, cond, false≢true}
+use mathlib.Core.Bool.{Bool, true, false, not, cond, false≢true}
 use mathlib.Core.List.{List}
 use lib.Dec.{ltb}
-use lib.IntN.{natAbs}
 use lib.Ieee.{Float}
 use borrow.Author.Tests.{ltb-false, not-false}
 use Rattle.triple.specs.declared.Triple.{Triple}
@@ -27,12 +26,12 @@ use Rattle.rules.specs.Walk.{told, Call}
 use Rattle.rules.specs.Follows.{played}
 use Rattle.whole.specs.Whole.{IsWhole}
 use Rattle.counting.specs.Paths.{Claims, Always}
-use Rattle.counting.specs.Counting.{spanOf, stepsFor, leastBefore, mostBefore, whenFor, Bounds, OnTime, onTime}
+use Rattle.counting.specs.Counting.{stepsFor, whenFor, Bounds, OnTime, onTime}
 use Rattle.counting.specs.Runs.{Going, answersIn, Finishes, Roomy, roomFor}
 use Rattle.counting.proofs.Claims.{always-follows}
 use Rattle.counting.proofs.OnTime.{ends-on-time}
 use Rattle.counting.proofs.Lines.{Limits}
-use Rattle.counting.proofs.Runs.{line-begins, line-goes, line-ends, some-answers}
+use Rattle.counting.proofs.Runs.{line-begins, line-goes, line-ends, some-answers, finishes-on-time}
 use Rattle.profile.specs.declared.Cost.{Cost}
 use Rattle.profile.specs.declared.Foreseen.{Foreseen}
 use Rattle.profile.specs.declared.Foreseen.the-variants.{Costs, Refused}
@@ -142,7 +141,7 @@ module _ (s : Settings) (t0 tf : Float) (r0 v0 : Triple) (b : Bounds s t0 tf (wh
   claims = asTold c (wholeOf t0) (wholeOf tf) (stepIn s)
 
   kept-promise : forecastOf s t0 tf ≡ Costs c → Keeps s t0 tf r0 v0 c
-  unfolding startedWhole wholeBy withCost costFor
+  unfolding startedWhole wholeBy withCost costFor spanIn stepIn
   kept-promise h =
       let fine = ends-on-time b r0 v0 .accepted in
       let same : startedWhole s t0 tf r0 v0 ≡ withCost (started s t0 tf r0 v0) c = ap (λ (x : Foreseen). wholeBy x (started s t0 tf r0 v0)) h in
@@ -157,6 +156,7 @@ module _ (s : Settings) (t0 tf : Float) (r0 v0 : Triple) (b : Bounds s t0 tf (wh
         finishes = λ (cs : List Call) (r : Roomy (c .samples) cs).
             subst (λ (x : Run). c .most ≤ answersIn 0 cs (played x cs) → Finishes (played x cs)) run
             (line-ends s t0 tf r0 v0 fine claims (c .most) (c .samples) limits all-kept some cs r);
+        on-time = finishes-on-time b r0 v0;
         bounds = b;
       }
 

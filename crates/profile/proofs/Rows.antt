@@ -1,6 +1,6 @@
 -- The table of forecasts is computed.
 use mathlib.Core.Path.{refl}
-use lib.Ieee.{binary64, ofInt, round, neg, sub, mul, div, lt, le, eq}
+use lib.Ieee.{ofInt, round, neg, sub, mul, div, lt, le, eq}
 use Rattle.triple.specs.Size.{absolute}
 use Rattle.triple.specs.Finite.{isFinite}
 use Rattle.plan.specs.Limits.{areWithinLimits, wantsSamples}

@@ -23,7 +23,7 @@ use Rattle.rules.specs.Follows.{played}
 use Rattle.whole.specs.Whole.{IsWhole}
 use Rattle.counting.specs.Paths.{Claims}
 use Rattle.counting.specs.Counting.{stepsFor, whenFor, Bounds}
-use Rattle.counting.specs.Runs.{Going, answersIn, Finishes, Roomy}
+use Rattle.counting.specs.Runs.{Going, answersIn, Finishes, Roomy, FinishesOnTime}
 use Rattle.profile.specs.declared.Cost.{Cost}
 use Rattle.profile.specs.declared.Foreseen.{Foreseen}
 use Rattle.profile.specs.declared.Foreseen.the-variants.{Costs, Refused}
@@ -63,7 +63,8 @@ pub record Keeps (s : Settings) (t0 tf : Float) (r0 v0 : Triple) (c : Cost) : Ty
   -- whoever answers every question comes to the end, with `most` answers at the latest
   pub finishes : (cs : List Call) → Roomy (c .samples) cs → c .most ≤ answersIn 0 cs (played (startedWhole s t0 tf r0 v0 .run) cs)
       → Finishes (played (startedWhole s t0 tf r0 v0 .run) cs)
-  -- the values are within the bounds of demand 3, so that all which is proved of those holds too
+  -- and so all of demand 3, by the startup passes made too, since the values are within its bounds
+  pub on-time : (cs : List Call) → Roomy (c .samples) cs → FinishesOnTime s t0 tf (wholeOf t0) (wholeOf tf) (wholeOf (s .h)) r0 v0 cs
   pub bounds : Bounds s t0 tf (wholeOf t0) (wholeOf tf) (wholeOf (s .h))
 
 -- for all f64

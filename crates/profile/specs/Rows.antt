@@ -6,7 +6,6 @@ use mathlib.Core.List.{List, [], _∷_}
 use lib.IntN.{ℤ, pos, negsuc, negℤ}
 use lib.Ieee.{Float, nan, fin, binary64, neg, ofInt}
 use Rattle.triple.specs.Arithmetic.{nought}
-use Rattle.refusals.specs.declared.Refusal.{Refusal}
 use Rattle.refusals.specs.declared.Refusal.the-variants.{StepNotFinite, Setting, BlankDate, NotWhole, TooFewSteps}
 use Rattle.plan.specs.declared.Settings.{Settings}
 use Rattle.plan.specs.Limits.{maxSteps}

@@ -1,7 +1,7 @@
 -- 01: "Bounds: t0, tf whole, at most 2^50 in size; h whole, 1 to 10^9 in size", of floats as they come. That these tests are exact, and `wholeOf`
 -- the number, is `Exactly`; the proof is `exactly` in proofs/Exactly.antt.
 use mathlib.Core.Path.{_≡_}
-use Prim.Native.Nat.{ℕ, _*_, _/_, _%_, _^_, _≤_}
+use Prim.Native.Nat.{_*_, _/_, _%_, _^_, _≤_}
 use mathlib.Core.Bool.{Bool, true, false, _&&_, cond}
 use lib.Dec.{eqb, leb}
 use lib.IntN.{ℤ, pos, negℤ, natAbs}
