@@ -11,6 +11,9 @@
  *     if (reply.kind == GJ_DONE) ... reply.t, reply.r, reply.v; reply.steps + 1 samples stand ...
  *     else ... reply.refusal, in words gj_refusal_text(reply.refusal) ...
  *
+ * Where t0, tf and the step are whole numbers, gj_forecast tells beforehand what a run takes: steps, room, answers. gj_start_whole starts
+ * one and tells the same; what it accepts always finishes.
+ *
  * Between any two questions a run can be put away in 2,048 bytes and taken up later, on another tablet too: gj_store, gj_load.
  *
  * Names: the project is Idfulzekt, what it offers is called gauss_jackson (this header, libgauss_jackson.a, the Rust crate), gj_ stands
@@ -53,8 +56,8 @@
 
 /* The version, and the number of what is laid down between header and library: it goes up when a size, a place or a call changes. Each is
  * set here alone. Calls that are added change nothing for programs built before, so the number stays; a program that uses one does not
- * link with an older library: "undefined reference to gj_store", or to gj_forecast, from 0.7.0 on. A refusal that is added is a number for which
- * an older header has no name: 12, from 0.4.0 on; 13 and 14, from 0.7.0 on, which only the calls of that version give.
+ * link with an older library: "undefined reference to gj_store", or from 0.7.0 on to gj_forecast. A refusal that is added is a number for
+ * which an older header has no name: 12, from 0.4.0 on; 13 and 14, from 0.7.0 on, which only the calls of that version give.
  *
  * GJ_ABI is 2 from 0.5.0 on: an interpolation tells the acceleration too, GJ_BETWEEN_NUMBERS a time, nine where they were six. An output of
  * six is refused (9), so no older caller's memory could be overrun. But one that has more room, kept for many times perhaps, would find its
@@ -81,11 +84,11 @@ enum {
 
 /* Refusals. What is left of a run: "no run" and "ended" are one and the same ended run, which answers 7 from then on. */
 enum {
-    GJ_STEP_NOT_FINITE = 1,       /* start: the step is zero, or the span is shorter than eight steps; no run, no sample */
+    GJ_STEP_NOT_FINITE = 1,       /* start, forecast: the step is zero, or the span is shorter than eight steps; no run, no sample */
     GJ_MAX_STEPS_EXCEEDED = 2,    /* answer: a further step is due and max_steps are made; ended. max_steps + 1 samples stand (at least 5) */
     GJ_NO_DENSE_OUTPUT = 3,       /* interpolation: fewer than two samples; the output is untouched */
     GJ_INTERP_OUT_OF_BOUNDS = 4,  /* interpolation: a time outside the samples; the output is untouched, for a batch wholly */
-    GJ_SETTING = 5,               /* start: a setting over its limit; no run, no sample */
+    GJ_SETTING = 5,               /* start, forecast: a setting over its limit; no run, no sample */
     GJ_SAMPLE_ROOM = 6,           /* answer: the samples due now do not all fit; ended. This call writes none, earlier ones stand: with
                                      room for n samples at every call n of them, none if n is below 5 */
     GJ_NO_QUESTION = 7,           /* answer, open question, storing: the run has ended, or is made up; run, samples, bytes unchanged */
@@ -94,10 +97,10 @@ enum {
     GJ_STORED_SHAPE = 10,         /* storing: the buffer has not GJ_STORED_SIZE bytes; untouched. Loading: not GJ_STORED_SIZE bytes, or a
                                      block's number or check is wrong: cut short, damaged, another file; the run is as it was */
     GJ_STORED_CONTENT = 11,       /* loading: whole blocks, but another form number, or what no run is; the run is as it was */
-    GJ_BLANK_DATE = 12,           /* start: t0, tf or the step is a NaN or an infinity; no run, no sample */
-    GJ_NOT_WHOLE = 13,            /* whole-second start or forecast: t0, tf or the step is no whole number, or beyond GJ_FARTHEST, or the step's
-                                     size not from 1 to GJ_LONGEST_STEP; no run, no sample */
-    GJ_TOO_FEW_STEPS = 14         /* whole-second start or forecast: max_steps is below the steps that the run takes; no run, no sample */
+    GJ_BLANK_DATE = 12,           /* start, forecast: t0, tf or the step is a NaN or an infinity; no run, no sample */
+    GJ_NOT_WHOLE = 13,            /* whole-second start, forecast: t0, tf or the step is no whole number; t0 or tf is above GJ_FARTHEST in
+                                     size, or the step's size not from 1 to GJ_LONGEST_STEP; no run, no sample */
+    GJ_TOO_FEW_STEPS = 14         /* whole-second start, forecast: max_steps is below the steps that the run takes; no run, no sample */
 };
 
 /* Limits of the settings. */
@@ -208,17 +211,17 @@ gj_settings gj_default_settings(void);
 /* A start: question 0, or refusal 5, 12 or 1, in this order. `run` is the caller's and need not be set before; it is written whole. */
 gj_reply gj_start(gj_run *run, gj_settings settings, double t0, double tf, gj_triple r0, gj_triple v0);
 
-/* The whole-second profile: where t0, tf and the step are whole numbers (-0.0 is one), t0 and tf at most GJ_FARTHEST in size, the step from 1 to
- * GJ_LONGEST_STEP, the cost of a run is known beforehand, and what is accepted always finishes: at tf exactly, in cost.steps steps, after
+/* The whole-second profile. Where t0, tf and the step are whole numbers (-0.0 is one), t0 and tf at most GJ_FARTHEST in size, the step from
+ * 1 to GJ_LONGEST_STEP, a run's cost is known beforehand. What is accepted always finishes: at tf exactly, in cost.steps steps, after
  * cost.least to cost.most answers, whatever the force says, if every answer is under the question's number and brings room for
  * cost.numbers numbers.
  *
- * The cost alone, without a run: what an app shows beside its button. Refusals 5, 12, 13, 1, 14, in this order: those that gj_start_whole would
- * give to the same values. */
+ * The cost alone, without a run: what an app shows beside its button. Refusals 5, 12, 13, 1, 14, in this order: those that gj_start_whole
+ * would give to the same values. */
 gj_cost_reply gj_forecast(gj_settings settings, double t0, double tf);
 
-/* A start in this profile: question 0 and the cost, or refusal 5, 12, 13, 1 or 14, in this order. *run is then what gj_start makes it: the same run
- * with the same questions, or an ended one. A plain start takes every start that this one takes. */
+/* A start in this profile: question 0 and the cost, or refusal 5, 12, 13, 1 or 14, in this order. *run is then what gj_start makes it: the
+ * same run with the same questions, or an ended one. A plain start takes every start that this one takes. */
 gj_whole_reply gj_start_whole(gj_run *run, gj_settings settings, double t0, double tf, gj_triple r0, gj_triple v0);
 
 /* The answer to question `number`: the acceleration `a` at the question's time, position and velocity. The run moves on
