@@ -84,7 +84,7 @@ enum {
 
 /* Refusals. What is left of a run: "no run" and "ended" are one and the same ended run, which answers 7 from then on. */
 enum {
-    GJ_STEP_NOT_FINITE = 1,       /* start, forecast: the step is zero, or the span is shorter than eight steps; no run, no sample */
+    GJ_STEP_NOT_FINITE = 1,       /* start, forecast: the span is shorter than eight steps; start: the step is zero; no run, no sample */
     GJ_MAX_STEPS_EXCEEDED = 2,    /* answer: a further step is due and max_steps are made; ended. max_steps + 1 samples stand (at least 5) */
     GJ_NO_DENSE_OUTPUT = 3,       /* interpolation: fewer than two samples; the output is untouched */
     GJ_INTERP_OUT_OF_BOUNDS = 4,  /* interpolation: a time outside the samples; the output is untouched, for a batch wholly */
@@ -108,10 +108,6 @@ enum {
     GJ_MAX_PASSES = 100,     /* for max_corrector_iters and for max_startup_iters */
     GJ_MAX_STEPS = 1000000   /* for max_steps */
 };
-
-/* Bounds of the whole-second profile, themselves within. */
-#define GJ_FARTHEST 1125899906842624.0  /* 2^50: for t0 and tf, in size */
-#define GJ_LONGEST_STEP 1000000000.0    /* 10^9: for the step, in size; the shortest is 1 */
 
 enum {
     GJ_SAMPLE_NUMBERS = 10,   /* t, r.x r.y r.z, v.x v.y v.z, a.x a.y a.z */
@@ -170,39 +166,6 @@ GJ_AT(gj_reply, kind, 80);
 GJ_AT(gj_reply, refusal, 84);
 GJ_AT(gj_reply, number, 86);
 
-/* What a run of whole numbers takes, known before it is begun. */
-typedef struct gj_cost {
-    uint64_t steps;    /* steps that it makes */
-    uint64_t samples;  /* room that every answer must bring, in samples: steps + 1; 0 where no samples are wanted */
-    uint64_t numbers;  /* the same room in numbers, GJ_SAMPLE_NUMBERS a sample: the `count` of gj_answer */
-    uint64_t least;    /* answers that it accepts, at least */
-    uint64_t most;     /* and at most; met exactly where both tolerances are zero or less */
-} gj_cost;
-GJ_SIZE(gj_cost, 40);
-GJ_AT(gj_cost, steps, 0);
-GJ_AT(gj_cost, samples, 8);
-GJ_AT(gj_cost, numbers, 16);
-GJ_AT(gj_cost, least, 24);
-GJ_AT(gj_cost, most, 32);
-
-/* A forecast. */
-typedef struct gj_cost_reply {
-    gj_cost cost;      /* all zero with a refusal */
-    uint32_t refusal;  /* 0, or 5, 12, 13, 1 or 14 */
-} gj_cost_reply;
-GJ_SIZE(gj_cost_reply, 48);
-GJ_AT(gj_cost_reply, cost, 0);
-GJ_AT(gj_cost_reply, refusal, 40);
-
-/* What a whole-second start tells: what a plain start tells, and the cost. */
-typedef struct gj_whole_reply {
-    gj_reply reply;
-    gj_cost cost;  /* all zero with a refusal */
-} gj_whole_reply;
-GJ_SIZE(gj_whole_reply, 128);
-GJ_AT(gj_whole_reply, reply, 0);
-GJ_AT(gj_whole_reply, cost, 88);
-
 #include "gauss_jackson_run.h" /* gj_run: 1,056 bytes of plain data */
 
 /* The module's values: one-minute steps, no samples. */
@@ -211,18 +174,7 @@ gj_settings gj_default_settings(void);
 /* A start: question 0, or refusal 5, 12 or 1, in this order. `run` is the caller's and need not be set before; it is written whole. */
 gj_reply gj_start(gj_run *run, gj_settings settings, double t0, double tf, gj_triple r0, gj_triple v0);
 
-/* The whole-second profile. Where t0, tf and the step are whole numbers (-0.0 is one), t0 and tf at most GJ_FARTHEST in size, the step from
- * 1 to GJ_LONGEST_STEP, a run's cost is known beforehand. What is accepted always finishes: at tf exactly, in cost.steps steps, after
- * cost.least to cost.most answers, whatever the force says, if every answer is under the question's number and brings room for
- * cost.numbers numbers.
- *
- * The cost alone, without a run: what an app shows beside its button. Refusals 5, 12, 13, 1, 14, in this order: those that gj_start_whole
- * would give to the same values. */
-gj_cost_reply gj_forecast(gj_settings settings, double t0, double tf);
-
-/* A start in this profile: question 0 and the cost, or refusal 5, 12, 13, 1 or 14, in this order. *run is then what gj_start makes it: the
- * same run with the same questions, or an ended one. A plain start takes every start that this one takes. */
-gj_whole_reply gj_start_whole(gj_run *run, gj_settings settings, double t0, double tf, gj_triple r0, gj_triple v0);
+#include "gauss_jackson_whole.h" /* gj_forecast and gj_start_whole: what a run of whole numbers takes, told beforehand */
 
 /* The answer to question `number`: the acceleration `a` at the question's time, position and velocity. The run moves on
  * where it stands. Refusals 7, 8, 6, 2, judged in this order. An answer exactly 65,536 questions late has the open question's number and

@@ -40,8 +40,8 @@ need_probe() {
     probe=target/staticlib/libprobe.a
 }
 
-# The calls that the header declares, a line each.
-declared_calls() { sed -n 's/^[a-z].* \**\(gj_[a-z_]*\)(.*/\1/p' include/gauss_jackson.h; }
+# The calls that the header declares, and its part on whole numbers, a line each.
+declared_calls() { sed -n 's/^[a-z].* \**\(gj_[a-z_]*\)(.*/\1/p' include/gauss_jackson.h include/gauss_jackson_whole.h; }
 
 need_library() {
     if [ -n "${GJ_LIBRARY:-}" ]; then

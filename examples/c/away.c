@@ -39,7 +39,9 @@ static gj_reply answer(gj_run *run, gj_reply question) { return gj_answer(run, q
 
 static int put_away(long answers, const char *path) {
     gj_run run;
-    gj_reply reply = start_day(&run, 0).reply;
+    gj_whole_reply begun = start_day(&run, 0);
+    gj_reply reply = begun.reply;
+    if (reply.kind == GJ_ASK) print_cost(begun.cost);
     for (; answers > 0 && reply.kind == GJ_ASK; answers--) reply = answer(&run, reply);
     uint8_t form[GJ_STORED_SIZE];
     uint32_t refusal = gj_store(&run, form, sizeof form);

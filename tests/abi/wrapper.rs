@@ -123,7 +123,7 @@ const NAMED: [Refusal; 14] = [
     Refusal::TooFewSteps,
 ];
 
-/// Whether the crate has a refusal of that number, with the header's text or the beginning of it: a flag has no limit here that it could name.
+/// Whether the crate has a refusal of that number, with the header's text; of 5 its beginning, since a flag has no limit here that it could name.
 ///
 /// # Safety
 ///
@@ -134,7 +134,8 @@ pub unsafe extern "C" fn wrapper_says(number: u16, text: *const c_char) -> i32 {
     let said = |refusal: &Refusal| {
         let own = refusal.to_string();
         let own = own.strip_suffix(&format!(" (refusal {number})"));
-        refusal.number() == number && own.map_or(false, |own| text.starts_with(own))
+        let same = |own: &str| if *refusal == Refusal::Setting { text.starts_with(own) && own.len() > 40 } else { text == own };
+        refusal.number() == number && own.map_or(false, same)
     };
     NAMED.get(usize::from(number) - 1).map_or(false, said).into()
 }

@@ -62,7 +62,7 @@ pub struct Wholes {
     refused: [u64; 5],
     /// Without and with a tail; of either, without and with samples.
     accepted: [[u64; 2]; 2],
-    misses: [u64; 5],
+    misses: [u64; 7],
     met: [u64; 6],
     pub played: Played,
     /// The oracle's own runs that the profile takes; and those of them that have a telling tolerance.

@@ -11,7 +11,7 @@ use std::fmt;
 #[derive(Debug, Clone, Copy, PartialEq, Eq, Hash)]
 #[non_exhaustive]
 pub enum Refusal {
-    /// At a start or a forecast: the step is zero, or the span is shorter than eight steps.
+    /// At a start or a forecast: the span is shorter than eight steps. At a plain start also: the step is zero.
     StepNotFinite,
     /// At an answer: a further step is due and `max_steps` are made. The run has ended; its samples stay.
     MaxStepsExceeded,

@@ -22,15 +22,17 @@ use Rattle.counting.proofs.OnTime.{ends-on-time}
 use Rattle.counting.proofs.Lines.{Limits, going, finishing}
 use Rattle.counting.proofs.Starts.{accepted-start}
 
--- an accepted start whose tree bears any claims out, with at most E answers and N samples: so does every line of calls with room
+-- an accepted start asks at its own values
+pub line-begins : (s : Settings) (t0 tf : Float) (r0 v0 : Triple) → verdictOn (planOf s t0 tf) ≡ Fine
+    → told (started s t0 tf r0 v0 .outcome) ≡ question 0 (record { t = t0; r = r0; v = v0 })
+unfolding settle integrate planOf
+line-begins s t0 tf r0 v0 accepted = follows-the-rules s t0 tf r0 v0 [] .first ∙ ap (λ (x : Stop). x .said) (accepted-start s t0 tf r0 v0 accepted)
+
+-- where its tree bears any claims out, with at most E answers and N samples, so does every line of calls with room
 module _ (s : Settings) (t0 tf : Float) (r0 v0 : Triple) (accepted : verdictOn (planOf s t0 tf) ≡ Fine)
     (c : Claims) (E N : ℕ) (l : Limits c E N) (always : Always c 0 0 (integrate (planOf s t0 tf) r0 v0)) where
   abbrev results : List Call → List Result
   results cs = played (started s t0 tf r0 v0 .run) cs
-
-  pub line-begins : told (started s t0 tf r0 v0 .outcome) ≡ question 0 (record { t = t0; r = r0; v = v0 })
-  unfolding settle integrate planOf
-  line-begins = follows-the-rules s t0 tf r0 v0 [] .first ∙ ap (λ (x : Stop). x .said) (accepted-start s t0 tf r0 v0 accepted)
 
   walks : (cs : List Call) → Roomy N cs → Going c E 0 0 0 cs (walk (settle (integrate (planOf s t0 tf) r0 v0) 0 0 [] .line) cs)
   unfolding settle integrate Always
@@ -67,7 +69,7 @@ module _ {s : Settings} {t0 tf : Float} {z0 zf hz : ℤ} (b : Bounds s t0 tf z0 
       let room = roomFor s (spanOf z0 zf) (natAbs hz) in
       let claims = onTime s t0 tf z0 zf (natAbs hz) in
       record {
-        first = line-begins s t0 tf r0 v0 (x .accepted) claims most room limits (x .always);
+        first = line-begins s t0 tf r0 v0 (x .accepted);
         then = line-goes s t0 tf r0 v0 (x .accepted) claims most room limits (x .always) cs r;
         ends = line-ends s t0 tf r0 v0 (x .accepted) claims most room limits (x .always) some-answers cs r;
       }

@@ -80,7 +80,7 @@ pub fn start(settings: Settings, t0: f64, tf: f64, r0: Triple, v0: Triple) -> An
     let verdict = plan::verdict_on(plan);
     match verdict {
         Verdict::Fine => outcomes::begin(plan, r0, v0),
-        Verdict::Refuse(refusal) => outcomes::end(Outcome::Refused(refusal)),
+        Verdict::Refuse(refusal) => refuse(refusal),
     }
 }
 

@@ -15,7 +15,8 @@ use Rattle.whole.proofs.Exact.{Is, Diff, lt-whole}
 use Rattle.whole.proofs.Integers.{plus, less, Holds, within, wider, sum-parts, neg-parts, sub-int, abs-int}
 use Rattle.counting.specs.Counting.{spanOf}
 use Rattle.profile.specs.Wholes.{wholeOf, isWholeTime}
-use Rattle.profile.proofs.Exactly.{time-holds}
+use Rattle.profile.specs.Countable.{farApart}
+use Rattle.profile.proofs.Reading.{time-holds}
 use Rattle.profile.proofs.Judging.{Ranged}
 
 -- ---- a difference within 2^51
@@ -98,5 +99,5 @@ module _ (t0 tf a : Float) (f : Double t0) (g : Double tf) (h : (isWholeTime t0 
   pub span-ranged : Ranged a
   span-ranged = let l = small in is-ranged S is (omega arith)
 
-  pub span-size : (n : ℕ) → n ≡ toUnsigned 64 a → (n ≡ S) × (n ≤ 2251799813685248) × Double t0 × Double tf
+  pub span-size : (n : ℕ) → n ≡ toUnsigned 64 a → (n ≡ S) × (n ≤ farApart) × Double t0 × Double tf
   span-size n k = let l = small in let m : n ≡ S = k ∙ is-cut S is (omega arith) in (m, omega arith, f, g)

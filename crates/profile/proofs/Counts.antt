@@ -1,23 +1,23 @@
 -- The counts fit in 64 bits, and are 01's.
 use mathlib.Core.Path.{_≡_, sym, ap, _∙_, subst}
-use Prim.Native.Nat.{ℕ, _+_, _-_, _*_, _≤_, _<_}
+use Prim.Native.Nat.{ℕ, _+_, _-_, _*_, _^_, _≤_, _<_}
 use native.Mathlib.Nat.{mul-le-mul, le-of-mul-le-mul-right, lt-of-mul-lt-mul-right}
 use native.Mathlib.Omega.{arith}
 use mathlib.Core.Bool.{Bool, true, false, cond}
 use borrow.Author.Tests.{lt-ltb, le-ltb}
 use Rattle.counting.specs.Counting.{stepsFor, tailFor}
 use Rattle.counting.proofs.Fates.{steps-reach}
-use Rattle.profile.specs.Sized.{Far}
+use Rattle.profile.specs.Countable.{farApart, Far}
 
--- what is known of K
-pub record Known (S H K : ℕ) : Type 0 where
+-- what is about-steps of K
+pub record AboutSteps (S H K : ℕ) : Type 0 where
   pub eight : 8 ≤ K
-  pub small : K ≤ 2251799813685248
+  pub small : K ≤ farApart
   pub close : K * H < S + H
-  pub sized : S + H ≤ 2251800813685248
+  pub sized : S + H ≤ farApart + 10 ^ 9
 
-pub known : (S H K : ℕ) → Far S H K → Known S H K
-known S H K f =
+pub about-steps : (S H K : ℕ) → Far S H K → AboutSteps S H K
+about-steps S H K f =
     let a = f .0 .0 in
     let b = f .0 .1 in
     let c = f .0 .2 in
@@ -40,8 +40,8 @@ unfolding tailFor
 tail-none S H k e h = sym (ap (λ (b : Bool). cond b 1 0) (le-ltb S (stepsFor S H * H) (subst (λ (i : ℕ). i * H ≤ S) e h)))
 
 -- ---- P(1+C)
-pub corrected-small : (K T C : ℕ) → K ≤ 2251799813685248 → C ≤ 100 → (K - 4 - T) * (1 + C) ≤ 227431781182210048
-corrected-small K T C h k = mul-le-mul {n₁ = K - 4 - T} {m₁ = 1 + C} {n₂ = 2251799813685248} {m₂ = 101} (omega arith) (omega arith)
+pub corrected-small : (K T C : ℕ) → K ≤ farApart → C ≤ 100 → (K - 4 - T) * (1 + C) ≤ farApart * 101
+corrected-small K T C h k = mul-le-mul {n₁ = K - 4 - T} {m₁ = 1 + C} {n₂ = farApart} {m₂ = 101} (omega arith) (omega arith)
 
 -- ---- what a test c, which is b, picks
 pub picked : (b c : Bool) (x y : ℕ) → c ≡ b → c ≡ true → x ≡ cond b x y

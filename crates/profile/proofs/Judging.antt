@@ -15,10 +15,10 @@ use Rattle.double.proofs.Signs.{at-most}
 use Rattle.triple.specs.Size.{absolute}
 use Rattle.triple.specs.Doubles.{Double}
 use Rattle.whole.proofs.Scale.{bool-ext, level-scale}
-use Rattle.profile.specs.Wholes.{wholeOf, isWhole, isWholeTime}
+use Rattle.profile.specs.Wholes.{wholeOf, hasNoFraction, isWholeTime}
 
-abbrev pub Limit : Float
-Limit = fin false 1 (pos 50)
+abbrev pub TwoTo50 : Float
+TwoTo50 = fin false 1 (pos 50)
 
 -- what a conversion to 64 bits takes
 abbrev pub Ranged : Float → Type 0
@@ -34,17 +34,17 @@ le-test a b = bool-ext (ltb a b || (eqb a b && true)) (leb a b) (λ (t : T (ltb 
     back false true f g l = tt
     back false false f g l = let k = f tt in absurd (g (omega arith))
 
-near-is : (s : Bool) (m : ℕ) (e : ℤ) → le (absolute (fin s m e)) Limit ≡ leb (m * up e * 1) (1 * 2 ^ 50 * down e)
+within-is : (s : Bool) (m : ℕ) (e : ℤ) → le (absolute (fin s m e)) TwoTo50 ≡ leb (m * up e * 1) (1 * 2 ^ 50 * down e)
 unfolding absolute le lt eq
-near-is s m e = le-test (m * up e * 1) (1 * 2 ^ 50 * down e)
+within-is s m e = le-test (m * up e * 1) (1 * 2 ^ 50 * down e)
 
-in-range : (x : Float) → le (absolute x) Limit ≡ true → Ranged (absolute x)
+in-range : (x : Float) → le (absolute x) TwoTo50 ≡ true → Ranged (absolute x)
 unfolding absolute le lt eq
 in-range nan h = absurd (false≢true h)
 in-range (inf s) h = absurd (false≢true h)
 in-range (fin s m e) h =
     let d : 0 < down e = down-pos e in
-    let l : m * up e * 1 ≤ 1 * 2 ^ 50 * down e = leb-true _ _ (sym (near-is s m e) ∙ h) in (
+    let l : m * up e * 1 ≤ 1 * 2 ^ 50 * down e = leb-true _ _ (sym (within-is s m e) ∙ h) in (
       lt→ltb 0 (1 * 1 * down e + m * up e * 1) (omega arith),
       lt→ltb (m * up e * 1) (1 * 2 ^ 64 * down e) (omega arith),
     )
@@ -56,7 +56,7 @@ size-is true (suc q) = refl
 size-is false q = refl
 
 pub time-is : (s : Bool) (m : ℕ) (e : ℤ) → isWholeTime (fin s m e) ≡ (eqb (m * up e % down e) 0 && leb (m * up e / down e) (2 ^ 50))
-unfolding isWholeTime isWhole wholeOf
+unfolding isWholeTime hasNoFraction wholeOf
 time-is s m e = ap (λ (n : ℕ). eqb (m * up e % down e) 0 && leb n (2 ^ 50)) (size-is s (m * up e / down e))
 
 fine : (n d : ℕ) → 0 < d → n ≤ 2 ^ 50 * d → n / d ≤ 2 ^ 50
@@ -89,13 +89,13 @@ whole-test n d p h =
     (λ (t : T (eqb (n % d) 0 && leb (n / d) (2 ^ 50))). let g = eqb→eq (n % d) 0 (and-l (eqb (n % d) 0) (leb (n / d) (2 ^ 50)) t) in and-i (eqb (n / d * d) n) true (eq→eqb {a = n / d * d} {b = n} (omega arith)) tt)
 
 -- ---- what the code tests, and what it is
-test-is : (x : Float) → le (absolute x) Limit ≡ true → eq (ofInt binary64 (pos (toUnsigned 64 (absolute x)))) (absolute x) ≡ isWholeTime x
+test-is : (x : Float) → le (absolute x) TwoTo50 ≡ true → eq (ofInt binary64 (pos (toUnsigned 64 (absolute x)))) (absolute x) ≡ isWholeTime x
 unfolding absolute le lt eq toUnsigned
 test-is nan h = absurd (false≢true h)
 test-is (inf s) h = absurd (false≢true h)
 test-is (fin s m e) h =
     let d : 0 < down e = down-pos e in
-    let l : m * up e * 1 ≤ 1 * 2 ^ 50 * down e = leb-true _ _ (sym (near-is s m e) ∙ h) in
+    let l : m * up e * 1 ≤ 1 * 2 ^ 50 * down e = leb-true _ _ (sym (within-is s m e) ∙ h) in
     let b : m * up e ≤ 2 ^ 50 * down e = omega arith in
     let f = fine (m * up e) (down e) d b in
     ap (λ (n : ℕ). eq (ofInt binary64 (pos n)) (fin false m e)) (cut-is (m * up e) (down e) d b)
@@ -103,21 +103,21 @@ test-is (fin s m e) h =
     ∙ whole-test (m * up e) (down e) d b
     ∙ sym (time-is s m e)
 
-part-is : (x : Float) → le (absolute x) Limit ≡ true → toUnsigned 64 (absolute x) ≡ natAbs (wholeOf x)
+part-is : (x : Float) → le (absolute x) TwoTo50 ≡ true → toUnsigned 64 (absolute x) ≡ natAbs (wholeOf x)
 unfolding absolute le lt eq wholeOf toUnsigned
 part-is nan h = absurd (false≢true h)
 part-is (inf s) h = absurd (false≢true h)
 part-is (fin s m e) h =
     let d : 0 < down e = down-pos e in
-    let l : m * up e * 1 ≤ 1 * 2 ^ 50 * down e = leb-true _ _ (sym (near-is s m e) ∙ h) in
+    let l : m * up e * 1 ≤ 1 * 2 ^ 50 * down e = leb-true _ _ (sym (within-is s m e) ∙ h) in
     cut-is (m * up e) (down e) d (omega arith) ∙ sym (size-is s (m * up e / down e))
 
-beyond : (x : Float) → le (absolute x) Limit ≡ false → isWholeTime x ≡ false
-unfolding isWholeTime isWhole
+beyond : (x : Float) → le (absolute x) TwoTo50 ≡ false → isWholeTime x ≡ false
+unfolding isWholeTime hasNoFraction
 beyond nan h = refl
 beyond (inf s) h = refl
 beyond (fin s m e) h =
-    let l : 1 * 2 ^ 50 * down e < m * up e * 1 = leb-false _ _ (sym (near-is s m e) ∙ h) in
+    let l : 1 * 2 ^ 50 * down e < m * up e * 1 = leb-false _ _ (sym (within-is s m e) ∙ h) in
     let g = div-add-mod' (m * up e) (down e) in
     time-is s m e
     ∙ bool-ext (eqb (m * up e % down e) 0 && leb (m * up e / down e) (2 ^ 50)) false
@@ -134,25 +134,25 @@ beyond (fin s m e) h =
 pub doubled : (x : Float) → fits binary64 x ≡ true → Double x
 doubled x e = subst T (sym e) tt
 
-at-abs : (x a : Float) → a ≡ absolute x → le a Limit ≡ true → le (absolute x) Limit ≡ true
-at-abs x a e h = sym (ap (λ (y : Float). le y Limit) e) ∙ h
+at-abs : (x a : Float) → a ≡ absolute x → le a TwoTo50 ≡ true → le (absolute x) TwoTo50 ≡ true
+at-abs x a e h = sym (ap (λ (y : Float). le y TwoTo50) e) ∙ h
 
-pub ranged : (x a : Float) → a ≡ absolute x → le a Limit ≡ true → Ranged a
+pub ranged : (x a : Float) → a ≡ absolute x → le a TwoTo50 ≡ true → Ranged a
 ranged x a e h = subst Ranged (sym e) (in-range x (at-abs x a e h))
 
-pub tested : (x a b : Float) (n : ℕ) → a ≡ absolute x → n ≡ toUnsigned 64 a → b ≡ ofInt binary64 (pos n) → le a Limit ≡ true → eq b a ≡ isWholeTime x
+pub tested : (x a b : Float) (n : ℕ) → a ≡ absolute x → n ≡ toUnsigned 64 a → b ≡ ofInt binary64 (pos n) → le a TwoTo50 ≡ true → eq b a ≡ isWholeTime x
 tested x a b n e f g h =
     let k : n ≡ toUnsigned 64 (absolute x) = f ∙ ap (toUnsigned 64) e in
     ap (λ (y : Float). eq y a) (g ∙ ap (λ (i : ℕ). ofInt binary64 (pos i)) k) ∙ ap (eq (ofInt binary64 (pos (toUnsigned 64 (absolute x))))) e ∙ test-is x (at-abs x a e h)
 
-pub too-large : (x a : Float) → a ≡ absolute x → le a Limit ≡ false → false ≡ isWholeTime x
-too-large x a e h = sym (beyond x (sym (ap (λ (y : Float). le y Limit) e) ∙ h))
+pub too-large : (x a : Float) → a ≡ absolute x → le a TwoTo50 ≡ false → false ≡ isWholeTime x
+too-large x a e h = sym (beyond x (sym (ap (λ (y : Float). le y TwoTo50) e) ∙ h))
 
 -- ---- of a whole number
-whole-near : (x : Float) → isWholeTime x ≡ true → le (absolute x) Limit ≡ true
-whole-near x h = go (le (absolute x) Limit) refl
+whole-near : (x : Float) → isWholeTime x ≡ true → le (absolute x) TwoTo50 ≡ true
+whole-near x h = go (le (absolute x) TwoTo50) refl
   where
-    go : (b : Bool) → le (absolute x) Limit ≡ b → b ≡ true
+    go : (b : Bool) → le (absolute x) TwoTo50 ≡ b → b ≡ true
     go true e = refl
     go false e = absurd (true≢false (sym h ∙ beyond x e))
 
@@ -160,4 +160,4 @@ pub whole-size : (x a : Float) (n : ℕ) → isWholeTime x ≡ true → a ≡ ab
 whole-size x a n h e f = f ∙ ap (toUnsigned 64) e ∙ part-is x (whole-near x h)
 
 pub whole-ranged : (x a : Float) → isWholeTime x ≡ true → a ≡ absolute x → Ranged a
-whole-ranged x a h e = ranged x a e (ap (λ (y : Float). le y Limit) e ∙ whole-near x h)
+whole-ranged x a h e = ranged x a e (ap (λ (y : Float). le y TwoTo50) e ∙ whole-near x h)

@@ -1,5 +1,5 @@
 pub mod Judging
-pub mod Exactly
+pub mod Reading
 pub mod Apart
 pub mod Counts
 pub mod Plainly

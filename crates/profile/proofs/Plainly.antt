@@ -21,7 +21,7 @@ use Rattle.counting.specs.Counting.{spanOf}
 use Rattle.profile.specs.Wholes.{wholeOf, isWholeTime, isWholeStep, areWhole}
 use Rattle.profile.specs.Costs.{spanIn, stepIn}
 use Rattle.profile.specs.Promise.{SameOne}
-use Rattle.profile.proofs.Exactly.{step-tests, step-holds}
+use Rattle.profile.proofs.Reading.{step-tests, step-holds}
 use Rattle.profile.proofs.Apart.{span-holds}
 
 -- what three whole numbers are

@@ -39,8 +39,8 @@ use Rattle.profile.specs.declared.WholeStart.{WholeStart}
 use Rattle.profile.specs.Wholes.{wholeOf, areWhole}
 use Rattle.profile.specs.Costs.{spanIn, stepIn, costFor, forecastOf}
 use Rattle.profile.specs.Start.{withCost, wholeBy, startedWhole}
-use Rattle.profile.specs.Promise.{Kept, asTold, Keeps, Promise, orElse, RefusesAlike}
-use Rattle.profile.proofs.Exactly.{exactly}
+use Rattle.profile.specs.Promise.{EndsAsTold, asTold, KeepsItsWord, Promise, orElse, RefusesAlike}
+use Rattle.profile.proofs.Reading.{reads-exactly}
 use Rattle.profile.proofs.Plainly.{three, far}
 use Rattle.profile.proofs.Forecasts.{by-tests}
 
@@ -87,9 +87,9 @@ bounds-of : (s : Settings) (t0 tf : Float) (c : Cost) → Double t0 → Double t
 unfolding spanIn stepIn
 bounds-of s t0 tf c f g k p =
     let w = three t0 tf (s .h) (p .whole) in
-    let a = exactly t0 f .time-read (w .start) in
-    let b = exactly tf g .time-read (w .end) in
-    let d = exactly (s .h) k .step-read (w .step) in
+    let a = reads-exactly t0 f .time-read (w .start) in
+    let b = reads-exactly tf g .time-read (w .end) in
+    let d = reads-exactly (s .h) k .step-read (w .step) in
     record {
       start-whole = a .0;
       end-whole = b .0;
@@ -108,7 +108,7 @@ module _ (s : Settings) (t0 tf : Float) (r0 v0 : Triple) (b : Bounds s t0 tf (wh
   abbrev c : Cost
   c = costFor s (spanIn t0 tf) (stepIn s)
 
-  kept : (e n : ℕ) (t : Float) (steps startups : ℕ) → OnTime s t0 tf (wholeOf t0) (wholeOf tf) (stepIn s) e n t steps startups → Kept c (wholeOf tf) e n t steps
+  kept : (e n : ℕ) (t : Float) (steps startups : ℕ) → OnTime s t0 tf (wholeOf t0) (wholeOf tf) (stepIn s) e n t steps startups → EndsAsTold c (wholeOf tf) e n t steps
   unfolding costFor spanIn roomFor
   kept e n t steps startups o = record { ends-at = o .ends-at; in-steps = o .in-steps; samples = o .samples; at-least = o .least-before; at-most = o .most-before }
 
@@ -128,8 +128,8 @@ module _ (s : Settings) (t0 tf : Float) (r0 v0 : Triple) (b : Bounds s t0 tf (wh
   unfolding asTold
   limits =
       record {
-        answers = λ (e n : ℕ) (t : Float) (steps startups : ℕ) (k : Kept c (wholeOf tf) e n t steps). k .at-most;
-        samples = λ (e n : ℕ) (t : Float) (steps startups : ℕ) (k : Kept c (wholeOf tf) e n t steps). let q = k .samples in omega arith;
+        answers = λ (e n : ℕ) (t : Float) (steps startups : ℕ) (k : EndsAsTold c (wholeOf tf) e n t steps). k .at-most;
+        samples = λ (e n : ℕ) (t : Float) (steps startups : ℕ) (k : EndsAsTold c (wholeOf tf) e n t steps). let q = k .samples in omega arith;
         never = λ (e n : ℕ) (x : ⊥). x;
       }
 
@@ -140,7 +140,7 @@ module _ (s : Settings) (t0 tf : Float) (r0 v0 : Triple) (b : Bounds s t0 tf (wh
   abbrev claims : Claims
   claims = asTold c (wholeOf t0) (wholeOf tf) (stepIn s)
 
-  kept-promise : forecastOf s t0 tf ≡ Costs c → Keeps s t0 tf r0 v0 c
+  kept-promise : forecastOf s t0 tf ≡ Costs c → KeepsItsWord s t0 tf r0 v0 c
   unfolding startedWhole wholeBy withCost costFor spanIn stepIn
   kept-promise h =
       let fine = ends-on-time b r0 v0 .accepted in
@@ -149,7 +149,7 @@ module _ (s : Settings) (t0 tf : Float) (r0 v0 : Triple) (b : Bounds s t0 tf (wh
       record {
         plainly = same;
         accepted = fine;
-        asks = ap (λ (x : WholeStart). told (x .told .outcome)) same ∙ line-begins s t0 tf r0 v0 fine claims (c .most) (c .samples) limits all-kept;
+        asks = ap (λ (x : WholeStart). told (x .told .outcome)) same ∙ line-begins s t0 tf r0 v0 fine;
         room = refl;
         goes = λ (cs : List Call) (r : Roomy (c .samples) cs).
             subst (λ (x : Run). Going claims (c .most) 0 0 0 cs (played x cs)) run (line-goes s t0 tf r0 v0 fine claims (c .most) (c .samples) limits all-kept cs r);
@@ -163,7 +163,7 @@ module _ (s : Settings) (t0 tf : Float) (r0 v0 : Triple) (b : Bounds s t0 tf (wh
 pub keeps : Promise
 keeps s t0 tf r0 v0 c f g k h =
     let p = accepted s t0 tf c h in
-    subst (Keeps s t0 tf r0 v0) (sym (p .cost)) (kept-promise s t0 tf r0 v0 (bounds-of s t0 tf c f g k p) (h ∙ ap Costs (p .cost)))
+    subst (KeepsItsWord s t0 tf r0 v0) (sym (p .cost)) (kept-promise s t0 tf r0 v0 (bounds-of s t0 tf c f g k p) (h ∙ ap Costs (p .cost)))
 
 -- ---- refused
 module _ (s : Settings) (t0 tf : Float) where

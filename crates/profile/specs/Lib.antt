@@ -1,6 +1,6 @@
 pub mod Wholes
 pub mod Costs
-pub mod Sized
+pub mod Countable
 pub mod Start
 pub mod Promise
 pub mod Rows

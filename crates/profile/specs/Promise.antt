@@ -1,5 +1,6 @@
 -- W-206: "What it accepts, answered with room for the samples, always finishes; a plain start with the same values is accepted too, with the same
--- questions." The proof is `keeps` in proofs/Promise.antt. And where a start is refused, how that stands to the plain start: `RefusesAlike`.
+-- questions." The proof is `keeps` in proofs/Promise.antt. And where a start is refused, how that stands to the plain start: `RefusesAlike`, proved there as
+-- `refuses-alike`; and `SameOne`, by `same-one` in proofs/Plainly.antt.
 use mathlib.Core.Path.{_≡_}
 use Prim.Native.Nat.{ℕ, _*_, _≤_, _<_}
 use mathlib.Core.Bool.{true, false, cond}
@@ -33,31 +34,32 @@ use Rattle.profile.specs.Start.{withCost, startedWhole}
 
 -- ---- accepted: what was told is kept
 -- the finished state, after e answers and n samples: at the end, in the steps told, with the samples told, within the bounds told
-pub record Kept (c : Cost) (zf : ℤ) (e n : ℕ) (t : Float) (steps : ℕ) : Type 0 where
+pub record EndsAsTold (c : Cost) (zf : ℤ) (e n : ℕ) (t : Float) (steps : ℕ) : Type 0 where
   pub ends-at : IsWhole t zf
   pub in-steps : steps ≡ c .steps
   pub samples : n ≡ c .samples
   pub at-least : c .least ≤ e
   pub at-most : e ≤ c .most
 
--- sample n stands exactly n steps from the start, and fits in the room told; no path runs out of steps
+-- sample n stands exactly n steps from the start, the last at the end, and fits in the room told; no path runs out of steps
 unfoldable pub asTold : Cost → (z0 zf : ℤ) → (step : ℕ) → Claims
 asTold c z0 zf step =
     record {
       sample = λ (n : ℕ) (t : Float). (n < c .samples) × IsWhole t (whenFor z0 zf step n);
-      finish = λ (e n : ℕ) (t : Float) (steps startups : ℕ). Kept c zf e n t steps;
+      finish = λ (e n : ℕ) (t : Float) (steps startups : ℕ). EndsAsTold c zf e n t steps;
       excess = λ (e n : ℕ). ⊥;
     }
 
 -- of a start with these values, whose cost is told as c
-pub record Keeps (s : Settings) (t0 tf : Float) (r0 v0 : Triple) (c : Cost) : Type 0 where
+pub record KeepsItsWord (s : Settings) (t0 tf : Float) (r0 v0 : Triple) (c : Cost) : Type 0 where
   -- the plain start's own run and question, and the cost; the question is number 0, at the values given
   pub plainly : startedWhole s t0 tf r0 v0 ≡ withCost (started s t0 tf r0 v0) c
   pub accepted : verdictOn (planOf s t0 tf) ≡ Fine
   pub asks : told (startedWhole s t0 tf r0 v0 .told .outcome) ≡ question 0 (record { t = t0; r = r0; v = v0 })
   -- the room in numbers is that in samples
   pub room : c .numbers ≡ sampleWidth * c .samples
-  -- every list of calls with the room told, refused ones among them: nothing but questions, 8 to a wrong number, and the finished state as told
+  -- every list of calls with the room told, refused ones among them: nothing but questions, 8 to a wrong number, the finished state as told, and 7
+  -- after it
   pub goes : (cs : List Call) → Roomy (c .samples) cs
       → Going (asTold c (wholeOf t0) (wholeOf tf) (stepIn s)) (c .most) 0 0 0 cs (played (startedWhole s t0 tf r0 v0 .run) cs)
   -- whoever answers every question comes to the end, with `most` answers at the latest
@@ -71,7 +73,7 @@ pub record Keeps (s : Settings) (t0 tf : Float) (r0 v0 : Triple) (c : Cost) : Ty
 abbrev pub Promise : Type 0
 Promise =
     (s : Settings) (t0 tf : Float) (r0 v0 : Triple) (c : Cost) → Double t0 → Double tf → Double (s .h) → forecastOf s t0 tf ≡ Costs c
-    → Keeps s t0 tf r0 v0 c
+    → KeepsItsWord s t0 tf r0 v0 c
 
 -- ---- refused
 -- what the plain start refuses is refused by the same number; what it takes is as x says

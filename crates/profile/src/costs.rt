@@ -1,25 +1,40 @@
 // SPDX-License-Identifier: MIT OR Apache-2.0
 // 01, "Counting beforehand", in numbers of 64 bits. No count comes near to wrapping: the largest is below 2^58.
 use crate::Cost;
+use crate::wholes;
 use plan::Settings;
 use plan::limits;
 ghost use mathlib.Core.Path.{_≡_};
 ghost use mathlib.Core.Bool.{cond};
 ghost use Prim.Native.Nat.{_+_, _*_, _≤_};
+ghost use lib.IntN.{natAbs};
 ghost use Rattle.plan.specs.Limits.{wantsSamples};
 ghost use Rattle.run.specs.Ready.{Small};
-ghost use Rattle.counting.specs.Counting.{stepsFor, tailFor, fewestFor};
-ghost use Rattle.profile.specs.Costs.{costFor};
-ghost use Rattle.profile.specs.Sized.{Sized, Far};
+ghost use Rattle.counting.specs.Counting.{spanOf, stepsFor, tailFor, fewestFor};
+ghost use Rattle.profile.specs.Wholes.{wholeOf, areWhole};
+ghost use Rattle.profile.specs.Costs.{spanIn, stepIn, costFor};
+ghost use Rattle.profile.specs.Countable.{farApart, Countable, Far, Apart};
 
 const SAMPLE_WIDTH: u64 = 10;
 
 // K, of any whole numbers within the bounds.
-pub fn steps_for(span: u64, step: u64) -> u64
-    requires { ⌜ Sized span step ⌝ }
+fn steps_for(span: u64, step: u64) -> u64
+    requires { ⌜ Countable span step ⌝ }
     ensures { λ n. ⌜ n ≡ stepsFor span step ⌝ }
 {
     (span + (step - 1)) / step
+}
+
+// K from t0 to tf by h; 0 where they are not whole.
+pub fn steps_between(t0: f64, tf: f64, h: f64) -> u64
+    ensures { λ n. ⌜ n ≡ cond (areWhole t0 tf h) (stepsFor (spanOf (wholeOf t0) (wholeOf tf)) (natAbs (wholeOf h))) 0 ⌝ }
+{
+    if !wholes::are_whole(t0, tf, h) {
+        return 0;
+    }
+    let span = wholes::span_of(t0, tf);
+    let step = wholes::size_of(h);
+    steps_for(span, step)
 }
 
 // T
@@ -46,7 +61,7 @@ fn tail_answers(s: Settings, tail: u64) -> u64
 
 // The samples that need room, one more than steps.
 fn samples_for(s: Settings, steps: u64) -> u64
-    requires { ⌜ steps ≤ 2251799813685248 ⌝ }
+    requires { ⌜ steps ≤ farApart ⌝ }
     ensures { λ n. ⌜ (n ≡ cond (wantsSamples s) (steps + 1) 0) × (n ≤ steps + 1) ⌝ }
 {
     if limits::wants_samples(s) {
@@ -66,7 +81,7 @@ fn fewest_for(s: Settings) -> u64
 }
 
 // The cost of a run of eight steps or more, where K is `steps`.
-pub fn cost_for(s: Settings, span: u64, step: u64, steps: u64) -> Cost
+fn cost_for(s: Settings, span: u64, step: u64, steps: u64) -> Cost
     requires { ⌜ Far span step steps × Small s ⌝ }
     ensures { λ c. ⌜ c ≡ costFor s span step ⌝ }
 {
@@ -85,4 +100,14 @@ pub fn cost_for(s: Settings, span: u64, step: u64, steps: u64) -> Cost
         least,
         most,
     }
+}
+
+// The cost of a run from t0 to tf, where they are whole and eight steps apart or more, and K is `steps`.
+pub fn cost_between(s: Settings, t0: f64, tf: f64, steps: u64) -> Cost
+    requires { ⌜ Apart s t0 tf steps × Small s ⌝ }
+    ensures { λ c. ⌜ c ≡ costFor s (spanIn t0 tf) (stepIn s) ⌝ }
+{
+    let span = wholes::span_of(t0, tf);
+    let step = wholes::size_of(s.h);
+    cost_for(s, span, step, steps)
 }

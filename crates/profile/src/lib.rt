@@ -61,10 +61,12 @@ pub fn forecast(settings: Settings, t0: f64, tf: f64) -> Foreseen
     ensures { λ x. ⌜ x ≡ forecastOf settings t0 tf ⌝ }
 {
     let plan = plan::plan_of(settings, t0, tf);
+    let steps = costs::steps_between(t0, tf, settings.h);
     let over = !limits::are_within_limits(settings);
     let blank = !limits::is_dated(plan);
     let broken = !wholes::are_whole(t0, tf, settings.h);
     let near = plan::is_too_near(plan);
+    let scarce = settings.max_steps < steps;
     if over {
         return Foreseen::Refused(Refusal::Setting);
     }
@@ -74,17 +76,13 @@ pub fn forecast(settings: Settings, t0: f64, tf: f64) -> Foreseen
     if broken {
         return Foreseen::Refused(Refusal::NotWhole);
     }
-    let span = wholes::span_of(t0, tf);
-    let step = wholes::size_of(settings.h);
-    let steps = costs::steps_for(span, step);
-    let scarce = settings.max_steps < steps;
     if near {
         return Foreseen::Refused(Refusal::StepNotFinite);
     }
     if scarce {
         return Foreseen::Refused(Refusal::TooFewSteps);
     }
-    let cost = costs::cost_for(settings, span, step, steps);
+    let cost = costs::cost_between(settings, t0, tf, steps);
     Foreseen::Costs(cost)
 }
 

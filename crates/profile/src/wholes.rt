@@ -6,6 +6,7 @@ ghost use Prim.Native.Nat.{_≤_};
 ghost use lib.IntN.{natAbs};
 ghost use Rattle.triple.specs.Doubles.{Double};
 ghost use Rattle.counting.specs.Counting.{spanOf};
+ghost use Rattle.profile.specs.Countable.{farApart};
 ghost use Rattle.profile.specs.Wholes.{wholeOf, isWholeTime, isWholeStep, areWhole};
 
 // 2^50
@@ -38,7 +39,7 @@ pub fn size_of(x: f64) -> u64
 // How far two whole numbers lie apart: the difference of the floats is exact.
 pub fn span_of(t0: f64, tf: f64) -> u64
     requires { ⌜ (isWholeTime t0 ≡ true) × (isWholeTime tf ≡ true) ⌝ }
-    ensures { λ n. ⌜ (n ≡ spanOf (wholeOf t0) (wholeOf tf)) × (n ≤ 2251799813685248) × Double t0 × Double tf ⌝ }
+    ensures { λ n. ⌜ (n ≡ spanOf (wholeOf t0) (wholeOf tf)) × (n ≤ farApart) × Double t0 × Double tf ⌝ }
 {
     let span = triple::abs(tf - t0);
     std::num::truncating_f64_to_u64(span)

@@ -1,7 +1,7 @@
 // SPDX-License-Identifier: MIT OR Apache-2.0
 //! The same day, put away in a file on the way and taken up by another program. examples/c/away.c is the same in C; each takes up what the
 //! other has put away, and ends with the same bits. There are no samples here: an app that has them keeps its slice of them too.
-use crate::{force, start_day};
+use crate::{force, print, start_day};
 use gauss_jackson::{Finished, Reply, Run};
 use std::{error, fs, io, io::Write};
 
@@ -19,7 +19,8 @@ fn write_safely(path: &str, form: &[u8]) -> io::Result<()> {
 }
 
 fn put_away(answers: u64, path: &str) -> Result<(), Trouble> {
-    let (mut run, mut reply, _) = start_day(false)?;
+    let (mut run, mut reply, cost) = start_day(false)?;
+    print::cost(&cost);
     for _ in 0..answers {
         if let Reply::Ask { number, r, .. } = reply {
             reply = run.answer(number, force(r), &mut [])?;

@@ -11,7 +11,7 @@ returns c = rw (← c .before .before .before .before .plan-of .ensures, sym (c 
 
 returns-2 : tie.Need-returns-2
 unfolding started startedBy
-returns-2 c = rw (← c .before .before .before .before .before .plan-of .ensures, sym (c .before .before .before .before .verdict-on .ensures) ∙ c .before .before .verdict .given .1) (c .end .ensures)
+returns-2 c = rw (← c .before .before .before .before .before .plan-of .ensures, sym (c .before .before .before .before .verdict-on .ensures) ∙ c .before .before .verdict .given .1) (c .refuse .ensures)
 
 pub start-spec : {M : Type 1} → statement M
 start-spec =

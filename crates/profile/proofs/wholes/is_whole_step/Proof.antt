@@ -2,7 +2,7 @@
 use mathlib.Core.Path.{sym, _∙_}
 use borrow.Author.Needs.{needs}
 use borrow.Author.Tests.{not-true, not-false}
-use Rattle.profile.proofs.Exactly.{no-time, no-size, some-size}
+use Rattle.profile.proofs.Reading.{no-time, no-size, some-size}
 use Rattle.profile.proofs.wholes.is_whole_step.Statement.{statement}
 use Rattle.profile.proofs.wholes.is_whole_step.Tie as tie
 

@@ -15,7 +15,7 @@ use Rattle.triple.specs.Doubles.{Double}
 use Rattle.whole.specs.Whole.{IsWhole}
 use Rattle.whole.proofs.Exact.{Diff}
 use Rattle.whole.proofs.Integers.{plus, less, Holds, within, wider, read, write}
-use Rattle.profile.specs.Wholes.{wholeOf, isWhole, isWholeTime, isWholeStep, AllExactly}
+use Rattle.profile.specs.Wholes.{wholeOf, hasNoFraction, isWholeTime, isWholeStep, AllReadExactly}
 
 -- ---- from the test to the number
 signed : (s : Bool) (n : ℕ) → Diff s n (plus (cond s (negℤ (pos n)) (pos n))) (less (cond s (negℤ (pos n)) (pos n)))
@@ -23,8 +23,8 @@ signed false n = omega arith
 signed true zero = refl
 signed true (suc n) = omega arith
 
-holds-at : (x : Float) → Double x → isWhole x ≡ true → Holds x (wholeOf x)
-unfolding isWhole wholeOf
+holds-at : (x : Float) → Double x → hasNoFraction x ≡ true → Holds x (wholeOf x)
+unfolding hasNoFraction wholeOf
 holds-at nan f h = absurd (false≢true h)
 holds-at (inf s) f h = absurd (false≢true h)
 holds-at (fin s m e) f h =
@@ -32,19 +32,19 @@ holds-at (fin s m e) f h =
     let g = div-add-mod' (m * up e) (down e) in
     record { holds = f; sign = s; size = m * up e / down e; value = (refl, omega arith); diff = signed s (m * up e / down e) }
 
-pub record Sound (x : Float) (most : ℕ) : Type 0 where
+pub record Bounded (x : Float) (most : ℕ) : Type 0 where
   pub holds : Holds x (wholeOf x)
   pub small : natAbs (wholeOf x) ≤ most
 
-pub time-holds : (x : Float) → Double x → isWholeTime x ≡ true → Sound x (2 ^ 50)
+pub time-holds : (x : Float) → Double x → isWholeTime x ≡ true → Bounded x (2 ^ 50)
 unfolding isWholeTime
 time-holds x f h = let b = both _ _ h in record { holds = holds-at x f (b .0); small = leb-true _ _ (b .1) }
 
-pub step-tests : (h : Float) → isWholeStep h ≡ true → (isWhole h ≡ true) × (1 ≤ natAbs (wholeOf h)) × (natAbs (wholeOf h) ≤ 10 ^ 9)
+pub step-tests : (h : Float) → isWholeStep h ≡ true → (hasNoFraction h ≡ true) × (1 ≤ natAbs (wholeOf h)) × (natAbs (wholeOf h) ≤ 10 ^ 9)
 unfolding isWholeStep
 step-tests h t = let b = both _ _ t in let a = both _ _ (b .0) in (a .0, leb-true _ _ (a .1), leb-true _ _ (b .1))
 
-pub step-holds : (h : Float) → Double h → isWholeStep h ≡ true → Sound h (10 ^ 9)
+pub step-holds : (h : Float) → Double h → isWholeStep h ≡ true → Bounded h (10 ^ 9)
 step-holds h f t = let b = step-tests h t in record { holds = holds-at h f (b .0); small = b .2 }
 
 -- a step is no larger than a time may be
@@ -71,11 +71,11 @@ pub some-size : (h : Float) (n : ℕ) → isWholeTime h ≡ true → n ≡ natAb
 unfolding isWholeTime isWholeStep
 some-size h n t e l =
     let k : 1 ≤ natAbs (wholeOf h) = omega arith in
-    let w : isWhole h ≡ true = both _ _ t .0 in
+    let w : hasNoFraction h ≡ true = both _ _ t .0 in
     rw (w, le-leb 1 (natAbs (wholeOf h)) k) (ap (λ (i : ℕ). leb i (10 ^ 9)) e)
 
 -- ---- the number itself
-written : (x : Float) (most : ℕ) → most ≤ 2 ^ 53 → Sound x most → IsWhole x (wholeOf x)
+written : (x : Float) (most : ℕ) → most ≤ 2 ^ 53 → Bounded x most → IsWhole x (wholeOf x)
 written x most l w = write (wholeOf x) (wider most (2 ^ 53) (wholeOf x) l (within most (wholeOf x) (w .small))) (w .holds)
 
 -- ---- and back
@@ -85,11 +85,11 @@ number-is false n (negsuc a) d = absurd (omega arith)
 number-is true n (pos a) d = let e : n ≡ 0 = omega arith in let g : a ≡ 0 = omega arith in ap (λ (i : ℕ). negℤ (pos i)) e ∙ ap pos (sym g)
 number-is true n (negsuc a) d = let e : n ≡ suc a = omega arith in ap (λ (i : ℕ). negℤ (pos i)) e
 
-passes : (x : Float) (z : ℤ) → Holds x z → (isWhole x ≡ true) × (wholeOf x ≡ z)
-unfolding isWhole wholeOf
+passes : (x : Float) (z : ℤ) → Holds x z → (hasNoFraction x ≡ true) × (wholeOf x ≡ z)
+unfolding hasNoFraction wholeOf
 passes x z X = go x (X .sign) (X .size) (X .value) (number-is (X .sign) (X .size) z (X .diff))
   where
-    go : (x : Float) (s : Bool) (n : ℕ) → HasValue x s n 1 → cond s (negℤ (pos n)) (pos n) ≡ z → (isWhole x ≡ true) × (wholeOf x ≡ z)
+    go : (x : Float) (s : Bool) (n : ℕ) → HasValue x s n 1 → cond s (negℤ (pos n)) (pos n) ≡ z → (hasNoFraction x ≡ true) × (wholeOf x ≡ z)
     go (fin t m e) s n v k =
         let g : m * up e ≡ n * down e = (let w = v .1 in omega arith) in
         let q : m * up e / down e ≡ n = ap (λ (i : ℕ). i / down e) g ∙ mul-div-cancel n (down-pos e) in
@@ -99,9 +99,9 @@ passes x z X = go x (X .sign) (X .size) (X .value) (number-is (X .sign) (X .size
 held : (x : Float) (z : ℤ) (most : ℕ) → most ≤ 2 ^ 53 → IsWhole x z → natAbs z ≤ most → Holds x z
 held x z most l w h = read z (wider most (2 ^ 53) z l (within most z h)) w
 
-pub exactly : AllExactly
+pub reads-exactly : AllReadExactly
 unfolding isWholeTime isWholeStep
-exactly x f =
+reads-exactly x f =
     record {
       time-read = λ (h : isWholeTime x ≡ true). let w = time-holds x f h in (written x (2 ^ 50) (omega arith) w, w .small);
       time-passes = λ (z : ℤ) (w : IsWhole x z) (l : natAbs z ≤ 2 ^ 50).
