@@ -1,5 +1,4 @@
 -- `cost_between` is `costFor`, of the span and the step of a start.
-use borrow.Author.Needs.{needs}
 use Rattle.profile.specs.Costs.{spanIn, stepIn}
 use Rattle.profile.proofs.Reading.{step-is-time}
 use Rattle.profile.proofs.Plainly.{three}
