@@ -32,6 +32,16 @@ static inline gj_reply play(gj_run *run, gj_reply reply, double *out, size_t cou
     return reply;
 }
 
+/* Runs of two starts are written over memory filled with these; where a byte of either has changed, a start has written. */
+enum { LOW_FILL = 0x11, HIGH_FILL = 0xEE };
+
+static inline size_t extent_of(const unsigned char *low, const unsigned char *high, size_t count) {
+    size_t last = 0;
+    for (size_t i = 0; i < count; i++)
+        if (low[i] != LOW_FILL || high[i] != HIGH_FILL) last = i + 1;
+    return last;
+}
+
 static inline int refused(gj_reply reply, int refusal) { return reply.kind == GJ_REFUSED && reply.refusal == refusal; }
 
 /* Refused, and the reply says nothing else. */

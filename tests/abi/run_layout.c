@@ -17,14 +17,11 @@ static void check_mark(const gj_run *run, int at, int index, int stage, unsigned
 static void extent_of_a_run(void) {
     unsigned char low[2000], high[2000];
     gj_triple r0 = {1, 2, 3};
-    memset(low, 0x11, sizeof low);
-    memset(high, 0xEE, sizeof high);
+    memset(low, LOW_FILL, sizeof low);
+    memset(high, HIGH_FILL, sizeof high);
     gj_start((gj_run *)low, plain(), 0.0, 8.0, r0, r0);
     gj_start((gj_run *)high, plain(), 0.0, 8.0, r0, r0);
-    size_t last = 0;
-    for (size_t i = 0; i < sizeof low; i++)
-        if (low[i] != 0x11 || high[i] != 0xEE) last = i + 1;
-    check(last == sizeof(gj_run), "a start writes as far as gj_run goes");
+    check(extent_of(low, high, sizeof low) == sizeof(gj_run), "a start writes as far as gj_run goes");
 }
 
 /* The waiting points of a startup, and what each has kept. Steps of 2, no force: places are on a line. */

@@ -23,14 +23,11 @@ static int same_run(const gj_run *one, const gj_run *other) {
 /* Every byte of a run is written, but for padding, and none past it. */
 static void extent_of_a_start(void) {
     unsigned char low[2000], high[2000];
-    memset(low, 0x11, sizeof low);
-    memset(high, 0xEE, sizeof high);
+    memset(low, LOW_FILL, sizeof low);
+    memset(high, HIGH_FILL, sizeof high);
     gj_start_whole((gj_run *)low, plain(), 0.0, 8.0, R0, V0);
     gj_start_whole((gj_run *)high, plain(), 0.0, 8.0, R0, V0);
-    size_t last = 0;
-    for (size_t i = 0; i < sizeof low; i++)
-        if (low[i] != 0x11 || high[i] != 0xEE) last = i + 1;
-    check(last == sizeof(gj_run), "a whole-second start writes as far as gj_run goes");
+    check(extent_of(low, high, sizeof low) == sizeof(gj_run), "a whole-second start writes as far as gj_run goes");
     check(same_run((gj_run *)low, (gj_run *)high), "what stood there before makes no difference");
 }
 
@@ -43,8 +40,8 @@ static void ended_runs(void) {
     for (size_t i = 0; i < sizeof starts / sizeof *starts; i++) {
         gj_run ended, whole;
         gj_settings s = plain();
-        memset(&ended, 0x11, sizeof ended);
-        memset(&whole, 0xEE, sizeof whole);
+        memset(&ended, LOW_FILL, sizeof ended);
+        memset(&whole, HIGH_FILL, sizeof whole);
         check(refused(gj_start(&ended, s, 0.0, 0.0, R0, V0), GJ_STEP_NOT_FINITE), "a refused plain start");
         s.h = starts[i].h, s.max_steps = starts[i].max_steps;
         check(refused(gj_start_whole(&whole, s, 5.0, starts[i].tf, R0, V0).reply, starts[i].refusal), "a refused whole-second start");
@@ -56,8 +53,8 @@ static void ended_runs(void) {
 static void check_same(gj_settings s, double t0, double tf) {
     gj_run one, other;
     static double samples[MOST_NUMBERS], other_samples[MOST_NUMBERS];
-    memset(&one, 0x11, sizeof one);
-    memset(&other, 0xEE, sizeof other);
+    memset(&one, LOW_FILL, sizeof one);
+    memset(&other, HIGH_FILL, sizeof other);
     gj_whole_reply begun = gj_start_whole(&one, s, t0, tf, R0, V0);
     gj_reply reply = begun.reply, plainly = gj_start(&other, s, t0, tf, R0, V0);
     check(reply.kind == GJ_ASK && begun.cost.numbers <= MOST_NUMBERS, "a whole-second start");

@@ -1,6 +1,6 @@
 -- From 01's bounds to a span in a direction, and back from times on the span to whole numbers.
 use mathlib.Core.Path.{_≡_, sym, _∙_, subst}
-use Prim.Native.Nat.{ℕ, _+_, _^_, _≤_, _<_, zero-le}
+use Prim.Native.Nat.{ℕ, _+_, _^_, _≤_, _<_}
 use native.Mathlib.Omega.{arith}
 use mathlib.Core.Bool.{Bool, true, false, cond}
 use lib.IntN.{ℤ, pos, negsuc, negℤ, natAbs, _+ℤ_, _-ℤ_}
@@ -11,18 +11,13 @@ use Rattle.triple.specs.Size.{absolute}
 use Rattle.triple.specs.Finite.{isFinite}
 use Rattle.whole.specs.Whole.{IsWhole}
 use Rattle.whole.proofs.Exact.{Is, move, neg-whole, one-whole}
-use Rattle.whole.proofs.Integers.{plus, less, Holds, Within, within, wider, sum-parts, neg-parts, le-parts, le-int, abs-int, read, write}
+use Rattle.whole.proofs.Integers.{plus, less, Holds, within, wider, between, sum-parts, neg-parts, le-parts, le-int, abs-int, read, write}
 use Rattle.whole.proofs.Along.{Along, sent-along}
 use Rattle.plan.specs.declared.Settings.{Settings}
 use Rattle.plan.specs.Plan.{directionOf, planOf}
 use Rattle.plan.specs.Lawful.{isDated, isLawful}
 use Rattle.counting.specs.Counting.{spanOf, Bounds}
 use Rattle.counting.proofs.Spans.{Span, whole-finite}
-
--- ---- sizes
-between : (N A B : ℕ) (z : ℤ) → A + less z ≡ plus z + B → A ≤ B + N → B ≤ A + N → Within N z
-between N A B (pos n) e h k = (omega arith, zero-le)
-between N A B (negsuc n) e h k = (zero-le, omega arith)
 
 -- the whole number A - B
 pub whole-at : {x : Float} (A B : ℕ) (z : ℤ) → Is x A B → A + less z ≡ plus z + B → A ≤ B + 2 ^ 53 → B ≤ A + 2 ^ 53 → IsWhole x z

@@ -5,14 +5,14 @@ use native.Mathlib.Nat.{mul-div-cancel}
 use native.Mathlib.Omega.{arith}
 use mathlib.Core.Bool.{Bool, true, false, cond}
 use lib.Dec.{T, lt→ltb}
-use lib.IntN.{ℤ, pos, negsuc, negℤ, natAbs, _-ℤ_}
+use lib.IntN.{ℤ, pos, negℤ, natAbs, _-ℤ_}
 use lib.Ieee.{Float, fin, binary64, up, down, sub, fits, toUnsigned}
 use lib.Ieee.Fits.{down-pos}
 use lib.Ieee.Exact.{HasValue}
 use Rattle.triple.specs.Size.{absolute}
 use Rattle.triple.specs.Doubles.{Double}
 use Rattle.whole.proofs.Exact.{Is, Diff, lt-whole}
-use Rattle.whole.proofs.Integers.{plus, less, Holds, within, wider, sum-parts, neg-parts, sub-int, abs-int}
+use Rattle.whole.proofs.Integers.{plus, less, Holds, Within, within, wider, size-within, between, sum-parts, neg-parts, sub-int, abs-int}
 use Rattle.counting.specs.Counting.{spanOf}
 use Rattle.profile.specs.Wholes.{wholeOf, isWholeTime}
 use Rattle.profile.specs.Countable.{farApart}
@@ -20,11 +20,7 @@ use Rattle.profile.proofs.Reading.{time-holds}
 use Rattle.profile.proofs.Judging.{Ranged}
 
 -- ---- a difference within 2^51
-apart-parts : (z : ℤ) (A B N : ℕ) → A + less z ≡ plus z + B → A ≤ B + N → B ≤ A + N → natAbs z ≤ N
-apart-parts (pos n) A B N e h k = omega arith
-apart-parts (negsuc n) A B N e h k = omega arith
-
-pub apart : (a b : ℤ) → natAbs a ≤ 2 ^ 50 → natAbs b ≤ 2 ^ 50 → natAbs (a -ℤ b) ≤ 2 ^ 51
+apart : (a b : ℤ) → natAbs a ≤ 2 ^ 50 → natAbs b ≤ 2 ^ 50 → Within (2 ^ 51) (a -ℤ b)
 apart a b v w =
     let x = within (2 ^ 50) a v in
     let y = within (2 ^ 50) b w in
@@ -36,18 +32,18 @@ apart a b v w =
     let n0 = n .0 in
     let n1 = n .1 in
     let p = sum-parts a (negℤ b) in
-    apart-parts (a -ℤ b) (plus a + plus (negℤ b)) (less a + less (negℤ b)) (2 ^ 51) p (omega arith) (omega arith)
+    between (2 ^ 51) (plus a + plus (negℤ b)) (less a + less (negℤ b)) (a -ℤ b) p (omega arith) (omega arith)
 
 module _ (t0 tf : Float) (f : Double t0) (g : Double tf) (h : isWholeTime t0 ≡ true) (k : isWholeTime tf ≡ true) where
   pub span-small : spanOf (wholeOf t0) (wholeOf tf) ≤ 2 ^ 51
   unfolding spanOf
-  span-small = apart (wholeOf tf) (wholeOf t0) (time-holds tf g k .small) (time-holds t0 f h .small)
+  span-small = size-within (2 ^ 51) (wholeOf tf -ℤ wholeOf t0) (apart (wholeOf tf) (wholeOf t0) (time-holds tf g k .small) (time-holds t0 f h .small))
 
   pub span-holds : Holds (sub binary64 tf t0) (wholeOf tf -ℤ wholeOf t0)
   span-holds =
       let l = apart (wholeOf tf) (wholeOf t0) (time-holds tf g k .small) (time-holds t0 f h .small) in
       sub-int (wholeOf tf) (wholeOf t0) (time-holds tf g k .holds) (time-holds t0 f h .holds)
-      (wider (2 ^ 51) (2 ^ 53) (wholeOf tf -ℤ wholeOf t0) (omega arith) (within (2 ^ 51) (wholeOf tf -ℤ wholeOf t0) l))
+      (wider (2 ^ 51) (2 ^ 53) (wholeOf tf -ℤ wholeOf t0) (omega arith) l)
 
   span-is : Is (absolute (sub binary64 tf t0)) (spanOf (wholeOf t0) (wholeOf tf)) 0
   unfolding spanOf

@@ -3,7 +3,7 @@ use mathlib.Core.Path.{_≡_, sym, ap, _∙_, subst}
 use Prim.Native.Nat.{ℕ, _+_, _-_, _*_, _^_, _≤_, _<_}
 use native.Mathlib.Nat.{mul-le-mul, le-of-mul-le-mul-right, lt-of-mul-lt-mul-right}
 use native.Mathlib.Omega.{arith}
-use mathlib.Core.Bool.{Bool, true, false, cond}
+use mathlib.Core.Bool.{Bool, cond}
 use borrow.Author.Tests.{lt-ltb, le-ltb}
 use Rattle.counting.specs.Counting.{stepsFor, tailFor}
 use Rattle.counting.proofs.Fates.{steps-reach}
@@ -43,9 +43,6 @@ tail-none S H k e h = sym (ap (λ (b : Bool). cond b 1 0) (le-ltb S (stepsFor S 
 pub corrected-small : (K T C : ℕ) → K ≤ farApart → C ≤ 100 → (K - 4 - T) * (1 + C) ≤ farApart * 101
 corrected-small K T C h k = mul-le-mul {n₁ = K - 4 - T} {m₁ = 1 + C} {n₂ = farApart} {m₂ = 101} (omega arith) (omega arith)
 
--- ---- what a test c, which is b, picks
-pub picked : (b c : Bool) (x y : ℕ) → c ≡ b → c ≡ true → x ≡ cond b x y
-picked b c x y e f = ap (λ (z : Bool). cond z x y) (sym f ∙ e)
-
-pub passed-over : (b c : Bool) (x y : ℕ) → c ≡ b → c ≡ false → y ≡ cond b x y
-passed-over b c x y e f = ap (λ (z : Bool). cond z x y) (sym f ∙ e)
+-- ---- a test c that is b, and came out as d, picks what b picks
+pub picked : (b c d : Bool) (x y : ℕ) → c ≡ b → c ≡ d → cond d x y ≡ cond b x y
+picked b c d x y e f = ap (λ (z : Bool). cond z x y) (sym f ∙ e)

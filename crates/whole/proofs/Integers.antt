@@ -37,6 +37,15 @@ within n (negsuc m) h = (zero-le, h)
 pub wider : (m n : ℕ) (z : ℤ) → m ≤ n → Within m z → Within n z
 wider m n z l h = let a = h .0 in let b = h .1 in (omega arith, omega arith)
 
+pub size-within : (n : ℕ) (z : ℤ) → Within n z → natAbs z ≤ n
+size-within n (pos m) h = h .0
+size-within n (negsuc m) h = h .1
+
+-- the whole number A - B
+pub between : (N A B : ℕ) (z : ℤ) → A + less z ≡ plus z + B → A ≤ B + N → B ≤ A + N → Within N z
+between N A B (pos n) e h k = (omega arith, zero-le)
+between N A B (negsuc n) e h k = (zero-le, omega arith)
+
 pub whole-ofInt : (z : ℤ) → Within (2 ^ 53) z → Holds (ofInt binary64 z) z
 unfolding ofInt
 whole-ofInt (pos n) h = of-round false n n 0 (h .0) (omega arith)
