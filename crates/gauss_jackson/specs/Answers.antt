@@ -35,7 +35,7 @@ use Rattle.conditions.specs.Conditions.{isDue, isTail, isAtRest}
 use Rattle.run.specs.Waiting.{isLast, stageAfter, markAt, waitsAt, nextPoint}
 use Rattle.run.specs.Questions.{questionAt}
 use Rattle.run.specs.Moves.{freshBody, surveyed, kept, movedOn, movedBack, passBegun, renewed, passMade, launched, predicted, tried, committed, endOfTail}
-use Rattle.run.specs.Samples.{hasRoom, putAll, startSamples, stepSample, lastSample}
+use Rattle.run.specs.Samples.{Room, hasRoom, putAll, startSamples, stepSample, lastSample}
 use Rattle.run.specs.Sound.{isSound}
 
 -- "Numbers start at 0 and rise by one for each accepted answer; after 65,535 the next question is numbered 0."
@@ -65,14 +65,14 @@ unfoldable pub endedRun : Run
 endedRun = record { mark = markAt Ended (record { number = 0; evals = 0 }); body = freshBody noPlan zeros zeros }
 
 unfoldable pub ending : Outcome → Answered
-ending o = record { run = endedRun; outcome = o }
+ending o = record { run = endedRun; outcome = o; stored = 0 }
 
 -- ---- a question is open
 unfoldable pub questionOf : Waiting → Count → Body → Outcome
 questionOf w c b = let q = questionAt w b in Ask (record { number = c .number; t = q .t; r = q .r; v = q .v })
 
 unfoldable pub asking : Waiting → Count → Body → Answered
-asking w c b = record { run = record { mark = markAt w c; body = b }; outcome = questionOf w c b }
+asking w c b = record { run = record { mark = markAt w c; body = b }; outcome = questionOf w c b; stored = 0 }
 
 -- ---- the finished state
 unfoldable pub solutionOf : Float → State → Count → ℕ → Body → Outcome
@@ -87,37 +87,41 @@ onward c b =
     (ending (Refused MaxStepsExceeded)))
     (ending (solutionOf (b .track .t) (b .track .state) c (b .track .steps) b))
 
--- ---- what a call gives: the answer, and the buffer at exit
+-- ---- what a call gives: the answer, and the room at exit
 pub record Given : Type 0 where
   pub got : Answered
-  pub out : List Float
+  pub out : Room
 
-abbrev pub quiet : Answered → List Float → Given
+abbrev pub quiet : Answered → Room → Given
 quiet x out = record { got = x; out = out }
 
+-- W-207: beside the outcome a call tells how many samples it stored
+unfoldable pub storing : ℕ → Answered → Answered
+storing m x = record { run = x .run; outcome = x .outcome; stored = m }
+
 -- samples from number n on are due, if wanted, and then x follows: all or none, refusal 6 before all else
-unfoldable pub sampling : ℕ → List Sample → Body → List Float → Answered → Given
+unfoldable pub sampling : ℕ → List Sample → Body → Room → Answered → Given
 sampling n ss b out x =
     cond (wantsSamples (b .plan .settings))
-    (cond (hasRoom n (length ss) out) (record { got = x; out = putAll n ss out }) (quiet (ending (Refused SampleRoom)) out))
+    (cond (hasRoom n (length ss) out) (record { got = storing (length ss) x; out = putAll n ss out }) (quiet (ending (Refused SampleRoom)) out))
     (quiet x out)
 
 -- the startup is done
-unfoldable pub startupEnded : Count → Body → List Float → Given
+unfoldable pub startupEnded : Count → Body → Room → Given
 startupEnded c b out = sampling 0 (startSamples (b .plan) (b .places) (b .a)) b out (onward c (launched b))
 
 -- a step is made
-unfoldable pub stepEnded : Count → Body → List Float → Given
+unfoldable pub stepEnded : Count → Body → Room → Given
 stepEnded c b out = sampling (b .track .steps) (stepSample (b .track) (b .a) ∷ []) b out (onward c b)
 
 -- the head of the startup passes, and the end of one
-unfoldable pub passesOn : Count → Body → List Float → Given
+unfoldable pub passesOn : Count → Body → Room → Given
 passesOn c b out =
     cond (ltb (b .«startup_iters») (b .plan .settings .«max_startup_iters»))
     (quiet (asking (Pass 0) c (passBegun b)) out)
     (startupEnded c b out)
 
-unfoldable pub passEnded : Count → Body → List Float → Given
+unfoldable pub passEnded : Count → Body → Room → Given
 passEnded c b out =
     cond (isSettled (b .plan .settings .«startup_tol») (b .widest))
     (startupEnded c (passMade b) out)
@@ -141,15 +145,15 @@ tailEnded c b a =
     (asking TailSample c (tried b (endOfTail b a)))
     (ending (solutionOf (b .plan .tf) (endOfTail b a) c (b .track .steps + 1) b))
 
-unfoldable pub surveyTaken : ℕ → Count → Body → Triple → List Float → Given
+unfoldable pub surveyTaken : ℕ → Count → Body → Triple → Room → Given
 surveyTaken i c b a out =
     cond (ltb i 8) (quiet (asking (Survey (nextPoint i)) c (surveyed i b a)) out) (passesOn c (surveyed i b a) out)
 
-unfoldable pub passTaken : ℕ → Count → Body → Triple → List Float → Given
+unfoldable pub passTaken : ℕ → Count → Body → Triple → Room → Given
 passTaken i c b a out = cond (ltb i 8) (quiet (asking (Pass (nextPoint i)) c (renewed i b a)) out) (passEnded c (renewed i b a) out)
 
 -- after n corrector passes. "A stop keeps the acceleration from before the last correction. No passes keep the prediction."
-unfoldable pub stepTaken : ℕ → Count → Body → Triple → List Float → Given
+unfoldable pub stepTaken : ℕ → Count → Body → Triple → Room → Given
 stepTaken n c b a out =
     let y = correctedState (b .plan .h) (b .track .sums) (b .trial .fixed) a in
     cond (ltb n (b .plan .settings .«max_corrector_iters»))
@@ -158,12 +162,12 @@ stepTaken n c b a out =
     (quiet (asking (Step (n + 1)) c (tried b y)) out))
     (stepEnded c (committed b (b .trial .state) a) out)
 
-unfoldable pub lastTaken : Count → Body → Triple → List Float → Given
+unfoldable pub lastTaken : Count → Body → Triple → Room → Given
 lastTaken c b a out =
     sampling (b .track .steps + 1) (lastSample (b .plan) (b .trial .state) a ∷ []) b out
     (ending (solutionOf (b .plan .tf) (b .trial .state) c (b .track .steps + 1) b))
 
-unfoldable pub answeredAt : Waiting → Count → Body → Triple → List Float → Given
+unfoldable pub answeredAt : Waiting → Count → Body → Triple → Room → Given
 answeredAt Epoch c b a out = quiet (asking (Forward 4 First) c (surveyed 4 b a)) out
 answeredAt (Forward i s) c b a out = quiet (rk4Taken (λ (t : Stage). Forward i t) s c b a (forwardEnded i c b a)) out
 answeredAt (Backward i s) c b a out = quiet (rk4Taken (λ (t : Stage). Backward i t) s c b a (backwardEnded i c b a)) out
@@ -177,10 +181,10 @@ answeredAt Unknown c b a out = quiet (ending (Refused NoQuestion)) out
 
 -- after 7 and 8 all is unchanged
 unfoldable pub refusing : Run → Refusal → Answered
-refusing run e = record { run = run; outcome = Refused e }
+refusing run e = record { run = run; outcome = Refused e; stored = 0 }
 
 -- "At an answer 7, 8, then 6 wherever samples are due (end of startup, commit, tail), before 2."
-unfoldable pub answered : Run → ℕ → Triple → List Float → Given
+unfoldable pub answered : Run → ℕ → Triple → Room → Given
 answered run n a out =
     cond (isSound run)
     (cond (eqb (run .mark .count .number) n)

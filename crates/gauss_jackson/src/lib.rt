@@ -11,6 +11,7 @@ use run::waiting;
 use triple::Triple;
 ghost use mathlib.Core.Path.{_≡_};
 ghost use Rattle.plan.specs.Plan.{defaultSettings};
+ghost use Rattle.run.specs.Samples.{tens, numbersOf};
 ghost use Rattle.gauss_jackson.specs.Answers.{ending, started, answered, openQuestion};
 ghost use Rattle.gauss_jackson.specs.declared.Outcome.the-variants.{Refused};
 
@@ -44,10 +45,11 @@ pub enum Outcome {
     Refused(Refusal),
 }
 
-// What a call gives: the run to go on with, and the outcome.
+// What a call gives: the run to go on with, the outcome, and how many samples it stored: 0, 1 or 5.
 pub struct Answered {
     pub run: Run,
     pub outcome: Outcome,
+    pub stored: u64,
 }
 
 // The module's values: one-minute steps, no samples.
@@ -84,23 +86,32 @@ pub fn start(settings: Settings, t0: f64, tf: f64, r0: Triple, v0: Triple) -> An
     }
 }
 
-// The answer to question `number`: the acceleration `a`. Samples that fall due go into `out`, sample n at 10n to 10n+9.
-pub fn answer(run: Run, number: u16, a: Triple, out: &mut [f64]) -> Answered
-    ensures { λ x. ⌜ (x ≡ answered run number a (now (out .entry)) .got) × (now (out .exit) ≡ answered run number a (now (out .entry)) .out) ⌝ }
+// The answer to question `number`: the acceleration `a`. Samples that fall due go into `out`, whose first ten numbers are those of sample
+// `from`: sample n takes ten from place 10(n - from) on.
+pub fn answer(run: Run, number: u16, a: Triple, from: u64, out: &mut [f64]) -> Answered
+    ensures { λ x. ⌜ (x ≡ answered run number a (tens from (now (out .entry))) .got) × (now (out .exit) ≡ numbersOf (answered run number a (tens from (now (out .entry))) .out)) ⌝ }
 {
     if !sound::is_sound(run) {
         let outcome = Outcome::Refused(Refusal::NoQuestion);
-        return Answered { run, outcome };
+        return Answered {
+            run,
+            outcome,
+            stored: 0,
+        };
     }
     let mark = run.mark;
     if mark.count.number != number {
         let outcome = Outcome::Refused(Refusal::NotThatQuestion);
-        return Answered { run, outcome };
+        return Answered {
+            run,
+            outcome,
+            stored: 0,
+        };
     }
     let w = waiting::waits_at(mark);
     let count = outcomes::next_count(mark.count);
     let body = run.body;
-    taking::take(w, count, body, a, out)
+    taking::take(w, count, body, a, from, out)
 }
 
 // The open question of a run, told again; or 7 where none is open.

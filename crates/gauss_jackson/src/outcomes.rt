@@ -1,10 +1,11 @@
 // SPDX-License-Identifier: MIT OR Apache-2.0
 // What a call can give: a question, the finished state or a refusal, and the run to go on with.
 ghost use mathlib.Core.Path.{_≡_};
+ghost use mathlib.Core.Bool.{cond};
 ghost use Prim.Native.Nat.{_<_};
 ghost use Rattle.run.specs.Limits.{ample};
 ghost use Rattle.run.specs.Moves.{freshBody};
-ghost use Rattle.gauss_jackson.specs.Answers.{nextCount, noPlan, endedRun, ending, questionOf, asking, solutionOf};
+ghost use Rattle.gauss_jackson.specs.Answers.{nextCount, noPlan, endedRun, ending, storing, questionOf, asking, solutionOf};
 use crate::Answered;
 use crate::Outcome;
 use crate::Question;
@@ -70,7 +71,23 @@ pub fn end(outcome: Outcome) -> Answered
     ensures { λ x. ⌜ x ≡ ending outcome ⌝ }
 {
     let run = ended_run();
-    Answered { run, outcome }
+    Answered {
+        run,
+        outcome,
+        stored: 0,
+    }
+}
+
+// The answer x, where samples are wanted after m of them were stored.
+pub fn tell_stored(wanted: bool, m: u64, x: Answered) -> Answered
+    ensures { λ y. ⌜ y ≡ cond wanted (storing m x) x ⌝ }
+{
+    if wanted {
+        let mut told = x;
+        told.stored = m;
+        return told;
+    }
+    x
 }
 
 pub fn question_of(w: Waiting, count: Count, body: Body) -> Outcome
@@ -94,7 +111,11 @@ pub fn ask(w: Waiting, count: Count, body: Body) -> Answered
     let mark = waiting::mark_at(w, count);
     let outcome = question_of(w, count, body);
     let run = Run { mark, body };
-    Answered { run, outcome }
+    Answered {
+        run,
+        outcome,
+        stored: 0,
+    }
 }
 
 // The run with its first question.

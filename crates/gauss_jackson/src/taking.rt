@@ -6,6 +6,7 @@ ghost use Rattle.plan.specs.Limits.{maxPasses};
 ghost use Rattle.run.specs.Limits.{ample};
 ghost use Rattle.run.specs.Moves.{kept};
 ghost use Rattle.run.specs.Ready.{Ready};
+ghost use Rattle.run.specs.Samples.{tens, numbersOf};
 ghost use Rattle.gauss_jackson.specs.Answers.{asking, onward, startupEnded, stepEnded, passesOn, passEnded, rk4Taken, forwardEnded, backwardEnded, tailEnded, surveyTaken, passTaken, stepTaken, lastTaken, answeredAt};
 use crate::Answered;
 use crate::Outcome;
@@ -41,55 +42,56 @@ fn onward(count: Count, b: Body) -> Answered
 }
 
 // The startup is done: its five samples, if wanted, then the loop.
-fn end_startup(count: Count, b: Body, out: &mut [f64]) -> Answered
-    ensures { λ x. ⌜ (x ≡ startupEnded count b (now (out .entry)) .got) × (now (out .exit) ≡ startupEnded count b (now (out .entry)) .out) ⌝ }
+fn end_startup(count: Count, b: Body, from: u64, out: &mut [f64]) -> Answered
+    ensures { λ x. ⌜ (x ≡ startupEnded count b (tens from (now (out .entry))) .got) × (now (out .exit) ≡ numbersOf (startupEnded count b (tens from (now (out .entry))) .out)) ⌝ }
 {
     let wanted = limits::wants_samples(b.plan.settings);
-    if !samples::has_place(wanted, 4, out.len()) {
+    if !samples::has_place(wanted, from, 0, 5, out.len()) {
         return outcomes::end(Outcome::Refused(Refusal::SampleRoom));
     }
-    samples::keep_points(wanted, b, out);
-    onward(count, moves::launch(b))
+    samples::keep_points(wanted, from, b, out);
+    outcomes::tell_stored(wanted, 5, onward(count, moves::launch(b)))
 }
 
 // A step is made: its sample, if wanted, then the loop.
-fn end_step(count: Count, b: Body, out: &mut [f64]) -> Answered
-    ensures { λ x. ⌜ (x ≡ stepEnded count b (now (out .entry)) .got) × (now (out .exit) ≡ stepEnded count b (now (out .entry)) .out) ⌝ }
+fn end_step(count: Count, b: Body, from: u64, out: &mut [f64]) -> Answered
+    ensures { λ x. ⌜ (x ≡ stepEnded count b (tens from (now (out .entry))) .got) × (now (out .exit) ≡ numbersOf (stepEnded count b (tens from (now (out .entry))) .out)) ⌝ }
 {
     let wanted = limits::wants_samples(b.plan.settings);
-    if !samples::has_place(wanted, b.track.steps, out.len()) {
+    if !samples::has_place(wanted, from, b.track.steps, 1, out.len()) {
         return outcomes::end(Outcome::Refused(Refusal::SampleRoom));
     }
     let window = b.a;
     samples::keep_sample(
         wanted,
+        from,
         b.track.steps,
         samples::step_sample(b.track, window),
         out,
     );
-    onward(count, b)
+    outcomes::tell_stored(wanted, 1, onward(count, b))
 }
 
 // The head of the startup passes.
-fn passes_on(count: Count, b: Body, out: &mut [f64]) -> Answered
-    ensures { λ x. ⌜ (x ≡ passesOn count b (now (out .entry)) .got) × (now (out .exit) ≡ passesOn count b (now (out .entry)) .out) ⌝ }
+fn passes_on(count: Count, b: Body, from: u64, out: &mut [f64]) -> Answered
+    ensures { λ x. ⌜ (x ≡ passesOn count b (tens from (now (out .entry))) .got) × (now (out .exit) ≡ numbersOf (passesOn count b (tens from (now (out .entry))) .out)) ⌝ }
 {
     if b.startup_iters < b.plan.settings.max_startup_iters {
         return outcomes::ask(Waiting::Pass(0), count, moves::begin_pass(b));
     }
-    end_startup(count, b, out)
+    end_startup(count, b, from, out)
 }
 
 // A startup pass has all its accelerations.
-fn end_pass(count: Count, b: Body, out: &mut [f64]) -> Answered
+fn end_pass(count: Count, b: Body, from: u64, out: &mut [f64]) -> Answered
     requires { ⌜ b .«startup_iters» < ample ⌝ }
-    ensures { λ x. ⌜ (x ≡ passEnded count b (now (out .entry)) .got) × (now (out .exit) ≡ passEnded count b (now (out .entry)) .out) ⌝ }
+    ensures { λ x. ⌜ (x ≡ passEnded count b (tens from (now (out .entry))) .got) × (now (out .exit) ≡ numbersOf (passEnded count b (tens from (now (out .entry))) .out)) ⌝ }
 {
     let next = advance::end_pass(b);
     if passes::is_settled(b.plan.settings.startup_tol, b.widest) {
-        return end_startup(count, next, out);
+        return end_startup(count, next, from, out);
     }
-    passes_on(count, next, out)
+    passes_on(count, next, from, out)
 }
 
 // An RK4 step has one acceleration more, and its next question stands at w.
@@ -133,39 +135,39 @@ fn take_backward(i: u8, s: Stage, count: Count, b: Body, a: Triple) -> Answered
     outcomes::ask(Waiting::Survey(0), count, next)
 }
 
-fn take_survey(i: u8, count: Count, b: Body, a: Triple, out: &mut [f64]) -> Answered
-    ensures { λ x. ⌜ (x ≡ surveyTaken i count b a (now (out .entry)) .got) × (now (out .exit) ≡ surveyTaken i count b a (now (out .entry)) .out) ⌝ }
+fn take_survey(i: u8, count: Count, b: Body, a: Triple, from: u64, out: &mut [f64]) -> Answered
+    ensures { λ x. ⌜ (x ≡ surveyTaken i count b a (tens from (now (out .entry))) .got) × (now (out .exit) ≡ numbersOf (surveyTaken i count b a (tens from (now (out .entry))) .out)) ⌝ }
 {
     let next = moves::survey(i, b, a);
     if i < 8 {
         return outcomes::ask(Waiting::Survey(advance::point_after(i)), count, next);
     }
-    passes_on(count, next, out)
+    passes_on(count, next, from, out)
 }
 
-fn take_pass(i: u8, count: Count, b: Body, a: Triple, out: &mut [f64]) -> Answered
+fn take_pass(i: u8, count: Count, b: Body, a: Triple, from: u64, out: &mut [f64]) -> Answered
     requires { ⌜ b .«startup_iters» < ample ⌝ }
-    ensures { λ x. ⌜ (x ≡ passTaken i count b a (now (out .entry)) .got) × (now (out .exit) ≡ passTaken i count b a (now (out .entry)) .out) ⌝ }
+    ensures { λ x. ⌜ (x ≡ passTaken i count b a (tens from (now (out .entry))) .got) × (now (out .exit) ≡ numbersOf (passTaken i count b a (tens from (now (out .entry))) .out)) ⌝ }
 {
     let next = moves::renew(i, b, a);
     if i < 8 {
         return outcomes::ask(Waiting::Pass(advance::point_after(i)), count, next);
     }
-    end_pass(count, next, out)
+    end_pass(count, next, from, out)
 }
 
 // An answer at a step's end, after n corrector passes.
-fn take_step(n: u8, count: Count, b: Body, a: Triple, out: &mut [f64]) -> Answered
+fn take_step(n: u8, count: Count, b: Body, a: Triple, from: u64, out: &mut [f64]) -> Answered
     requires { ⌜ (b .plan .settings .«max_corrector_iters» ≤ maxPasses) × (b .track .steps < ample) ⌝ }
-    ensures { λ x. ⌜ (x ≡ stepTaken n count b a (now (out .entry)) .got) × (now (out .exit) ≡ stepTaken n count b a (now (out .entry)) .out) ⌝ }
+    ensures { λ x. ⌜ (x ≡ stepTaken n count b a (tens from (now (out .entry))) .got) × (now (out .exit) ≡ numbersOf (stepTaken n count b a (tens from (now (out .entry))) .out)) ⌝ }
 {
     let before = b.trial.state;
     if (n as u64) >= b.plan.settings.max_corrector_iters {
-        return end_step(count, advance::commit(b, before, a), out);
+        return end_step(count, advance::commit(b, before, a), from, out);
     }
     let after = sums::corrected(b.plan.h, b.track.sums, b.trial.fixed, a);
     if conditions::is_at_rest(b.plan.settings.corrector_tol, before, after) {
-        return end_step(count, advance::commit(b, after, a), out);
+        return end_step(count, advance::commit(b, after, a), from, out);
     }
     outcomes::ask(Waiting::Step(n + 1), count, moves::try_state(b, after))
 }
@@ -185,23 +187,24 @@ fn take_tail(s: Stage, count: Count, b: Body, a: Triple) -> Answered
 }
 
 // The tail's sample has its acceleration.
-fn take_last(count: Count, b: Body, a: Triple, out: &mut [f64]) -> Answered
+fn take_last(count: Count, b: Body, a: Triple, from: u64, out: &mut [f64]) -> Answered
     requires { ⌜ b .track .steps < ample ⌝ }
-    ensures { λ x. ⌜ (x ≡ lastTaken count b a (now (out .entry)) .got) × (now (out .exit) ≡ lastTaken count b a (now (out .entry)) .out) ⌝ }
+    ensures { λ x. ⌜ (x ≡ lastTaken count b a (tens from (now (out .entry))) .got) × (now (out .exit) ≡ numbersOf (lastTaken count b a (tens from (now (out .entry))) .out)) ⌝ }
 {
     let n = b.track.steps + 1;
     let wanted = limits::wants_samples(b.plan.settings);
-    if !samples::has_place(wanted, n, out.len()) {
+    if !samples::has_place(wanted, from, n, 1, out.len()) {
         return outcomes::end(Outcome::Refused(Refusal::SampleRoom));
     }
-    samples::keep_sample(wanted, n, samples::last_sample(b, a), out);
-    outcomes::end(outcomes::solution_of(b.plan.tf, b.trial.state, count, n, b))
+    samples::keep_sample(wanted, from, n, samples::last_sample(b, a), out);
+    let done = outcomes::end(outcomes::solution_of(b.plan.tf, b.trial.state, count, n, b));
+    outcomes::tell_stored(wanted, 1, done)
 }
 
 // The right answer at waiting point w of a sound run.
-pub fn take(w: Waiting, count: Count, b: Body, a: Triple, out: &mut [f64]) -> Answered
+pub fn take(w: Waiting, count: Count, b: Body, a: Triple, from: u64, out: &mut [f64]) -> Answered
     requires { ⌜ Ready w b ⌝ }
-    ensures { λ x. ⌜ (x ≡ answeredAt w count b a (now (out .entry)) .got) × (now (out .exit) ≡ answeredAt w count b a (now (out .entry)) .out) ⌝ }
+    ensures { λ x. ⌜ (x ≡ answeredAt w count b a (tens from (now (out .entry))) .got) × (now (out .exit) ≡ numbersOf (answeredAt w count b a (tens from (now (out .entry))) .out)) ⌝ }
 {
     match w {
         Waiting::Epoch => outcomes::ask(
@@ -211,11 +214,11 @@ pub fn take(w: Waiting, count: Count, b: Body, a: Triple, out: &mut [f64]) -> An
         ),
         Waiting::Forward(i, s) => take_forward(i, s, count, b, a),
         Waiting::Backward(i, s) => take_backward(i, s, count, b, a),
-        Waiting::Survey(i) => take_survey(i, count, b, a, out),
-        Waiting::Pass(i) => take_pass(i, count, b, a, out),
-        Waiting::Step(n) => take_step(n, count, b, a, out),
+        Waiting::Survey(i) => take_survey(i, count, b, a, from, out),
+        Waiting::Pass(i) => take_pass(i, count, b, a, from, out),
+        Waiting::Step(n) => take_step(n, count, b, a, from, out),
         Waiting::Tail(s) => take_tail(s, count, b, a),
-        Waiting::TailSample => take_last(count, b, a, out),
+        Waiting::TailSample => take_last(count, b, a, from, out),
         Waiting::Ended => outcomes::end(Outcome::Refused(Refusal::NoQuestion)),
         Waiting::Unknown => outcomes::end(Outcome::Refused(Refusal::NoQuestion)),
     }

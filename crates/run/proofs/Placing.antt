@@ -2,68 +2,91 @@
 use mathlib.Core.Path.{_≡_, refl, sym, ap, _∙_}
 use Prim.Native.Nat.{ℕ, _+_, _-_, _*_, _/_, _≤_, _<_}
 use native.Mathlib.Omega.{arith}
-use mathlib.Core.Bool.{Bool, true, false, cond}
+use mathlib.Core.Bool.{Bool, true, false, _&&_, cond}
 use mathlib.Core.List.{List, [], _∷_}
-use lib.Dec.{ltb, leb}
+use lib.Dec.{leb}
 use lib.ListN.{length, length-set}
 use lib.Ieee.{Float}
-use borrow.Author.Tests.{leb-true, ltb-true, ltb-false, le-leb, lt-leb}
+use borrow.Author.Tests.{leb-true, leb-false, le-leb, lt-leb}
 use Rattle.triple.specs.declared.Triple.{Triple}
 use Rattle.triple.specs.declared.Sample.{Sample}
 use Rattle.triple.specs.Sampled.{sampleWidth}
 use Rattle.startup.specs.declared.Places.{Places}
 use Rattle.plan.specs.declared.Plan.{Plan}
-use Rattle.run.specs.Samples.{hasRoom, put, putAll, gridSample, startSamples, keptSample, keptPoint, keptPoints}
+use Rattle.run.specs.Samples.{Room, tens, numbersOf, isPlaced, hasRoom, written, put, putAll, gridSample, startSamples, keptSample, keptPoint, keptPoints}
+use Rattle.run.proofs.Counts.{both}
 
-pub by-quotient : (n room : ℕ) → ltb n (room / sampleWidth) ≡ leb (sampleWidth * (n + 1)) room
-by-quotient n room = go (ltb n (room / sampleWidth)) refl
-  where
-    go : (d : Bool) → ltb n (room / sampleWidth) ≡ d → d ≡ leb (sampleWidth * (n + 1)) room
-    go true e = let h : n < room / sampleWidth = ltb-true _ _ e in sym (le-leb (sampleWidth * (n + 1)) room (omega (arith, h)))
-    go false e = let h : room / sampleWidth ≤ n = ltb-false _ _ e in sym (lt-leb (sampleWidth * (n + 1)) room (omega (arith, h)))
+no-and : (d : Bool) {e : Bool} → e ≡ false → d && e ≡ false
+no-and true h = h
+no-and false h = refl
 
-module _ (n : ℕ) (l : List Float) where
-  pub fits-here : n < length l / sampleWidth → hasRoom n 1 l ≡ true
-  unfolding hasRoom
-  fits-here h = le-leb (sampleWidth * (n + 1)) (length l) (omega (arith, h))
+-- ---- the tests that the code makes
+module _ (from n m room : ℕ) where
+  pub before-it : n < from → isPlaced from n m room ≡ false
+  unfolding isPlaced
+  before-it h = rw (lt-leb from n h)
 
-  pub no-fit : length l / sampleWidth ≤ n → hasRoom n 1 l ≡ false
-  unfolding hasRoom
-  no-fit h = lt-leb (sampleWidth * (n + 1)) (length l) (omega (arith, h))
+  pub too-few : room / sampleWidth < m → isPlaced from n m room ≡ false
+  unfolding isPlaced
+  too-few h = no-and (leb from n) (lt-leb (sampleWidth * (n - from + m)) room (omega (arith, h)))
 
--- ---- a buffer keeps its length
-pub length-put : (n : ℕ) (s : Sample) (out : List Float) → length (put n s out) ≡ length out
-unfolding put
-length-put n s out = simp length-set
+  pub by-quotient : from ≤ n → m ≤ room / sampleWidth → leb (n - from) (room / sampleWidth - m) ≡ isPlaced from n m room
+  unfolding isPlaced
+  by-quotient h k = rw (le-leb from n h) (go (leb (n - from) (room / sampleWidth - m)) refl)
+    where
+      go : (d : Bool) → leb (n - from) (room / sampleWidth - m) ≡ d → d ≡ leb (sampleWidth * (n - from + m)) room
+      go true e = let f : n - from ≤ room / sampleWidth - m = leb-true _ _ e in sym (le-leb (sampleWidth * (n - from + m)) room (omega (arith, f, k)))
+      go false e = let f : room / sampleWidth - m < n - from = leb-false _ _ e in sym (lt-leb (sampleWidth * (n - from + m)) room (omega (arith, f, k)))
 
-pub length-put-all : (n : ℕ) (ss : List Sample) (out : List Float) → length (putAll n ss out) ≡ length out
+module _ (from n : ℕ) (l : List Float) where
+  pub fits-here : from ≤ n → n - from < length l / sampleWidth → isPlaced from n 1 (length l) ≡ true
+  unfolding isPlaced
+  fits-here h k = rw (le-leb from n h, le-leb (sampleWidth * (n - from + 1)) (length l) (omega (arith, k)))
+
+  pub no-fit : length l / sampleWidth ≤ n - from → isPlaced from n 1 (length l) ≡ false
+  unfolding isPlaced
+  no-fit k = no-and (leb from n) (lt-leb (sampleWidth * (n - from + 1)) (length l) (omega (arith, k)))
+
+-- ---- a room keeps its length
+pub length-written : (i : ℕ) (s : Sample) (l : List Float) → length (written i s l) ≡ length l
+unfolding written
+length-written i s l = simp length-set
+
+pub length-put : (n : ℕ) (s : Sample) (out : Room) → length (numbersOf (put n s out)) ≡ length (numbersOf out)
+unfolding put numbersOf
+length-put n s (tens from l) = length-written (sampleWidth * (n - from)) s l
+
+pub length-put-all : (n : ℕ) (ss : List Sample) (out : Room) → length (numbersOf (putAll n ss out)) ≡ length (numbersOf out)
 unfolding putAll
 length-put-all n [] out = refl
 length-put-all n (s ∷ ss) out = length-put-all (n + 1) ss (put n s out) ∙ length-put n s out
 
 -- ---- the startup's five samples
-module _ (p : Plan) (x : Places) (a : List Triple) where
+module _ (from : ℕ) (p : Plan) (x : Places) (a : List Triple) where
   abbrev with-point : ℕ → List Float → List Float
-  with-point i out = put (i - 4) (gridSample p x a i) out
+  with-point i l = written (sampleWidth * (i - 4 - from)) (gridSample p x a i) l
 
-  one-point : (i : ℕ) (o out : List Float) → i ≤ 8 → o ≡ out → sampleWidth * 5 ≤ length out → (keptPoint true p x a i o ≡ with-point i out) × (sampleWidth * 5 ≤ length (with-point i out))
-  unfolding keptPoint keptSample hasRoom
-  one-point i o out h e l =
-      let f : leb (sampleWidth * (i - 4 + 1)) (length out) ≡ true = le-leb (sampleWidth * (i - 4 + 1)) (length out) (omega arith) in
-      (ap (λ (w : List Float). keptPoint true p x a i w) e ∙ go (leb (sampleWidth * (i - 4 + 1)) (length out)) f, omega (arith, length-put (i - 4) (gridSample p x a i) out))
+  one-point : (i : ℕ) (o l : List Float) → 4 ≤ i → i ≤ 8 → o ≡ l → from ≤ 0 → sampleWidth * 5 ≤ length l
+      → (keptPoint true from p x a i o ≡ with-point i l) × (sampleWidth * 5 ≤ length (with-point i l))
+  unfolding keptPoint keptSample
+  one-point i o l g h e z r =
+      let f : isPlaced from (i - 4) 1 (length l) ≡ true = fits-here from (i - 4) l (omega arith) (omega arith) in
+      (ap (λ (w : List Float). keptPoint true from p x a i w) e ∙ go (isPlaced from (i - 4) 1 (length l)) f, omega (arith, length-written (sampleWidth * (i - 4 - from)) (gridSample p x a i) l))
     where
-      go : (d : Bool) → d ≡ true → cond d (with-point i out) out ≡ with-point i out
+      go : (d : Bool) → d ≡ true → cond d (with-point i l) l ≡ with-point i l
       go d e = rw e
 
-  pub points-put : (out : List Float) → hasRoom 0 5 out ≡ true → keptPoints true p x a out ≡ putAll 0 (startSamples p x a) out
-  unfolding keptPoints putAll startSamples hasRoom
-  points-put out r =
-      let h4 = one-point 4 out out (omega arith) refl (leb-true _ _ r) in
-      let h5 = one-point 5 _ _ (omega arith) (h4 .0) (h4 .1) in
-      let h6 = one-point 6 _ _ (omega arith) (h5 .0) (h5 .1) in
-      let h7 = one-point 7 _ _ (omega arith) (h6 .0) (h6 .1) in
-      one-point 8 _ _ (omega arith) (h7 .0) (h7 .1) .0
+  pub points-put : (l : List Float) → hasRoom 0 5 (tens from l) ≡ true → tens from (keptPoints true from p x a l) ≡ putAll 0 (startSamples p x a) (tens from l)
+  unfolding keptPoints putAll put startSamples hasRoom isPlaced
+  points-put l r =
+      let b = both (leb from 0) (leb (sampleWidth * (0 - from + 5)) (length l)) r in
+      let z = leb-true _ _ (b .0) in
+      let h4 = one-point 4 l l (omega arith) (omega arith) refl z (omega (arith, leb-true (sampleWidth * (0 - from + 5)) (length l) (b .1))) in
+      let h5 = one-point 5 _ _ (omega arith) (omega arith) (h4 .0) z (h4 .1) in
+      let h6 = one-point 6 _ _ (omega arith) (omega arith) (h5 .0) z (h5 .1) in
+      let h7 = one-point 7 _ _ (omega arith) (omega arith) (h6 .0) z (h6 .1) in
+      ap (λ (o : List Float). tens from o) (one-point 8 _ _ (omega arith) (omega arith) (h7 .0) z (h7 .1) .0)
 
-  pub points-off : (out : List Float) → keptPoints false p x a out ≡ out
+  pub points-off : (l : List Float) → keptPoints false from p x a l ≡ l
   unfolding keptPoints keptPoint keptSample
-  points-off out = refl
+  points-off l = refl

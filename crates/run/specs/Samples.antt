@@ -1,6 +1,7 @@
--- 01: "A sample is ten f64: t, r, v, a. Sample n takes numbers 10n to 10n+9; nothing else is written."
+-- 01: "A sample is ten f64: t, r, v, a. Sample n takes numbers 10n to 10n+9; nothing else is written." W-207: "a call names the sample number its
+-- room begins at, b, and sample n takes the ten numbers from 10(n-b)"; "6 covers a sample before b".
 use Prim.Native.Nat.{ℕ, _+_, _-_, _*_}
-use mathlib.Core.Bool.{Bool, true, cond}
+use mathlib.Core.Bool.{Bool, true, _&&_, cond}
 use mathlib.Core.List.{List, [], _∷_}
 use lib.Dec.{leb}
 use lib.ListN.{length, set}
@@ -15,29 +16,44 @@ use Rattle.startup.specs.declared.Places.{Places}
 use Rattle.plan.specs.declared.Plan.{Plan}
 use Rattle.run.specs.declared.Track.{Track}
 
--- samples n to n + m - 1 all fit in the buffer
-unfoldable pub hasRoom : ℕ → ℕ → List Float → Bool
-hasRoom n m out = leb (sampleWidth * (n + m)) (length out)
+-- the room that a call lends: the sample that it begins at, b, and its numbers
+pub data Room : Type 0 where
+  tens : (from : ℕ) → List Float → Room
 
-unfoldable pub put : ℕ → Sample → List Float → List Float
-put n s out =
-    set (set (set (set (set (set (set (set (set (set out
-    (sampleWidth * n) (s .t))
-    (sampleWidth * n + 1) (s .r .x)) (sampleWidth * n + 2) (s .r .y)) (sampleWidth * n + 3) (s .r .z))
-    (sampleWidth * n + 4) (s .v .x)) (sampleWidth * n + 5) (s .v .y)) (sampleWidth * n + 6) (s .v .z))
-    (sampleWidth * n + 7) (s .a .x)) (sampleWidth * n + 8) (s .a .y)) (sampleWidth * n + 9) (s .a .z)
+unfoldable pub numbersOf : Room → List Float
+numbersOf (tens from numbers) = numbers
+
+-- samples n to n + m - 1 all have their place among so many numbers: none stands before b, and the last has its ten
+unfoldable pub isPlaced : (from n m room : ℕ) → Bool
+isPlaced from n m room = leb from n && leb (sampleWidth * (n - from + m)) room
+
+unfoldable pub hasRoom : ℕ → ℕ → Room → Bool
+hasRoom n m (tens from numbers) = isPlaced from n m (length numbers)
+
+-- a sample's ten numbers from place i on
+unfoldable pub written : (i : ℕ) → Sample → List Float → List Float
+written i s numbers =
+    set (set (set (set (set (set (set (set (set (set numbers
+    i (s .t))
+    (i + 1) (s .r .x)) (i + 2) (s .r .y)) (i + 3) (s .r .z))
+    (i + 4) (s .v .x)) (i + 5) (s .v .y)) (i + 6) (s .v .z))
+    (i + 7) (s .a .x)) (i + 8) (s .a .y)) (i + 9) (s .a .z)
+
+unfoldable pub put : ℕ → Sample → Room → Room
+put n s (tens from numbers) = tens from (written (sampleWidth * (n - from)) s numbers)
 
 -- a row of samples, the first of them sample n
-unfoldable pub putAll : ℕ → List Sample → List Float → List Float
-putAll n [] out = out
-putAll n (s ∷ ss) out = putAll (n + 1) ss (put n s out)
+unfoldable pub putAll : ℕ → List Sample → Room → Room
+putAll n [] room = room
+putAll n (s ∷ ss) room = putAll (n + 1) ss (put n s room)
 
--- ---- one sample, where samples are wanted
-unfoldable pub hasPlace : (wanted : Bool) (n room : ℕ) → Bool
-hasPlace wanted n room = cond wanted (leb (sampleWidth * (n + 1)) room) true
+-- ---- where samples are wanted: whether they have their place, and one that is kept
+unfoldable pub hasPlace : (wanted : Bool) (from n m room : ℕ) → Bool
+hasPlace wanted from n m room = cond wanted (isPlaced from n m room) true
 
-unfoldable pub keptSample : (wanted : Bool) → ℕ → Sample → List Float → List Float
-keptSample wanted n s out = cond wanted (cond (hasRoom n 1 out) (put n s out) out) out
+unfoldable pub keptSample : (wanted : Bool) (from n : ℕ) → Sample → List Float → List Float
+keptSample wanted from n s numbers =
+    cond wanted (cond (isPlaced from n 1 (length numbers)) (written (sampleWidth * (n - from)) s numbers) numbers) numbers
 
 -- ---- what is stored, and when
 -- point i of the startup
@@ -57,9 +73,13 @@ unfoldable pub lastSample : Plan → State → Triple → Sample
 lastSample p y a = record { t = p .tf; r = y .r; v = y .v; a = a }
 
 -- the startup's samples one after the other, where samples are wanted
-unfoldable pub keptPoint : (wanted : Bool) → Plan → Places → List Triple → ℕ → List Float → List Float
-keptPoint wanted p x window i out = keptSample wanted (i - 4) (gridSample p x window i) out
+unfoldable pub keptPoint : (wanted : Bool) (from : ℕ) → Plan → Places → List Triple → (i : ℕ) → List Float → List Float
+keptPoint wanted from p x window i numbers = keptSample wanted from (i - 4) (gridSample p x window i) numbers
 
-unfoldable pub keptPoints : (wanted : Bool) → Plan → Places → List Triple → List Float → List Float
-keptPoints wanted p x window out =
-    keptPoint wanted p x window 8 (keptPoint wanted p x window 7 (keptPoint wanted p x window 6 (keptPoint wanted p x window 5 (keptPoint wanted p x window 4 out))))
+unfoldable pub keptPoints : (wanted : Bool) (from : ℕ) → Plan → Places → List Triple → List Float → List Float
+keptPoints wanted from p x window numbers =
+    keptPoint wanted from p x window 8
+    (keptPoint wanted from p x window 7
+    (keptPoint wanted from p x window 6
+    (keptPoint wanted from p x window 5
+    (keptPoint wanted from p x window 4 numbers))))

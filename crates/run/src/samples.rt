@@ -1,5 +1,6 @@
 // SPDX-License-Identifier: MIT OR Apache-2.0
-// Samples: which there are, and where each goes in the lent buffer. Ten numbers each, and never one without its place.
+// Samples: which there are, and where each goes in the lent room, whose first ten numbers are those of sample `from`. Ten numbers each, and
+// never one without its place.
 ghost use mathlib.Core.Path.{_≡_};
 ghost use Prim.Native.Nat.{_≤_};
 ghost use Rattle.run.specs.Samples.{hasPlace, keptSample, gridSample, keptPoint, keptPoints, stepSample, lastSample};
@@ -11,24 +12,34 @@ use triple::nine;
 
 const SAMPLE_WIDTH: usize = 10;
 
-// Whether sample n, if samples are wanted, has its place among so many numbers.
-pub fn has_place(wanted: bool, n: u64, room: usize) -> bool
-    ensures { λ b. ⌜ b ≡ hasPlace wanted n room ⌝ }
+// Whether samples n to n + m - 1, if samples are wanted, have their place among so many numbers.
+pub fn has_place(wanted: bool, from: u64, n: u64, m: u64, room: usize) -> bool
+    ensures { λ b. ⌜ b ≡ hasPlace wanted from n m room ⌝ }
 {
     if wanted {
-        return n < ((room / SAMPLE_WIDTH) as u64);
+        if from > n {
+            return false;
+        }
+        let places = (room / SAMPLE_WIDTH) as u64;
+        if places < m {
+            return false;
+        }
+        return n - from <= places - m;
     }
     true
 }
 
-// Sample n at 10n to 10n + 9, where samples are wanted and it has its place there.
-pub fn keep_sample(wanted: bool, n: u64, s: Sample, out: &mut [f64])
-    ensures { λ _. ⌜ now (out .exit) ≡ keptSample wanted n s (now (out .entry)) ⌝ }
+// Sample n at 10(n - from) and the nine numbers after it, where samples are wanted and it has its place there.
+pub fn keep_sample(wanted: bool, from: u64, n: u64, s: Sample, out: &mut [f64])
+    ensures { λ _. ⌜ now (out .exit) ≡ keptSample wanted from n s (now (out .entry)) ⌝ }
 {
     if wanted {
-        let room = out.len() / SAMPLE_WIDTH;
-        if n < (room as u64) {
-            let i = SAMPLE_WIDTH * (n as usize);
+        if n < from {
+            return;
+        }
+        let places = out.len() / SAMPLE_WIDTH;
+        if n - from < (places as u64) {
+            let i = SAMPLE_WIDTH * ((n - from) as usize);
             out[i] = s.t;
             out[i + 1] = s.r.x;
             out[i + 2] = s.r.y;
@@ -61,22 +72,22 @@ fn grid_sample(b: Body, i: u8) -> Sample
 }
 
 // Point i of the startup, from 4 on, as sample i - 4.
-fn keep_point(wanted: bool, b: Body, i: u8, out: &mut [f64])
+fn keep_point(wanted: bool, from: u64, b: Body, i: u8, out: &mut [f64])
     requires { ⌜ 4 ≤ i ⌝ }
-    ensures { λ _. ⌜ now (out .exit) ≡ keptPoint wanted (b .plan) (b .places) (b .a) i (now (out .entry)) ⌝ }
+    ensures { λ _. ⌜ now (out .exit) ≡ keptPoint wanted from (b .plan) (b .places) (b .a) i (now (out .entry)) ⌝ }
 {
-    keep_sample(wanted, (i - 4) as u64, grid_sample(b, i), out);
+    keep_sample(wanted, from, (i - 4) as u64, grid_sample(b, i), out);
 }
 
 // Points 4 to 8 of the startup, as samples 0 to 4.
-pub fn keep_points(wanted: bool, b: Body, out: &mut [f64])
-    ensures { λ _. ⌜ now (out .exit) ≡ keptPoints wanted (b .plan) (b .places) (b .a) (now (out .entry)) ⌝ }
+pub fn keep_points(wanted: bool, from: u64, b: Body, out: &mut [f64])
+    ensures { λ _. ⌜ now (out .exit) ≡ keptPoints wanted from (b .plan) (b .places) (b .a) (now (out .entry)) ⌝ }
 {
-    keep_point(wanted, b, 4, out);
-    keep_point(wanted, b, 5, out);
-    keep_point(wanted, b, 6, out);
-    keep_point(wanted, b, 7, out);
-    keep_point(wanted, b, 8, out);
+    keep_point(wanted, from, b, 4, out);
+    keep_point(wanted, from, b, 5, out);
+    keep_point(wanted, from, b, 6, out);
+    keep_point(wanted, from, b, 7, out);
+    keep_point(wanted, from, b, 8, out);
 }
 
 // The newest point, with the newest of the accelerations.
