@@ -5,7 +5,6 @@ use native.Mathlib.Omega.{arith}
 use mathlib.Core.Bool.{Bool, true, false, cond}
 use mathlib.Core.List.{List, [], _∷_}
 use lib.Dec.{ltb, eqb}
-use lib.Ieee.{Float}
 use borrow.Author.Tests.{ltb-true, ltb-false}
 use Rattle.triple.specs.declared.Triple.{Triple}
 use Rattle.triple.specs.declared.State.{State}
@@ -26,7 +25,7 @@ use Rattle.run.specs.Tracks.{stepPoint, finalPoint}
 use Rattle.run.specs.Waiting.{isLast, stageAfter, waitsAt, nextPoint}
 use Rattle.run.specs.Questions.{endPoint, lastPoint, questionAt}
 use Rattle.run.specs.Moves.{surveyed, kept, movedOn, movedBack, renewed, tried, committed, endOfTail}
-use Rattle.run.specs.Samples.{lastSample}
+use Rattle.run.specs.Samples.{Room, lastSample}
 use Rattle.run.specs.Sound.{isSound}
 use Rattle.run.proofs.Counts.{Counts, Facts, to-facts}
 use Rattle.run.proofs.Moving.{epoch-on, forward-kept, forward-on, forward-last, backward-kept, backward-on, backward-last, survey-on, survey-last, pass-on, pass-last, step-again, step-made, tail-kept, tail-last}
@@ -40,7 +39,7 @@ use Rattle.rules.proofs.Bridge.{numbered-on, asked-is, ended-is, sampli
 
 -- ---- the right answer at a waiting point: c counts the answers up to this one
 module _ (i e : ℕ) (c : Count) (b : Body) (x : Triple) (l : isLawful (b .plan) ≡ true) (n : c .number ≡ c .evals % numbering) (u : c .evals ≡ e + 1) where
-  forward-end-is : (out : List Float) → Counts (Forward i Fourth) e b → seen (quiet (forwardEnded i c b x) out) ≡ settle (ahead (i + 1) (movedOn i b x)) (c .number) (c .evals) out
+  forward-end-is : (out : Room) → Counts (Forward i Fourth) e b → seen (quiet (forwardEnded i c b x) out) ≡ settle (ahead (i + 1) (movedOn i b x)) (c .number) (c .evals) out
   unfolding forwardEnded movedOn
   forward-end-is out k = go (ltb i 7) refl
     where
@@ -54,7 +53,7 @@ module _ (i e : ℕ) (c : Count) (b : Body) (x : Triple) (l : isLawful (b .plan)
           rw (forward-done (i + 1) (b .plan) (movedOn i b x .places) (turning (movedOn i b x)) (omega arith), behind-is 4 (movedOn i b x) (omega arith))
           (asked-is (Backward 4 First) c (movedOn i b x) out l n (rw u (forward-last i e b x h k)))
 
-  backward-end-is : (out : List Float) → Counts (Backward i Fourth) e b → seen (quiet (backwardEnded i c b x) out) ≡ settle (behind (i - 1) (movedBack i b x)) (c .number) (c .evals) out
+  backward-end-is : (out : Room) → Counts (Backward i Fourth) e b → seen (quiet (backwardEnded i c b x) out) ≡ settle (behind (i - 1) (movedBack i b x)) (c .number) (c .evals) out
   unfolding backwardEnded movedBack backward later
   backward-end-is out k = go (ltb 1 i) refl
     where
@@ -69,7 +68,7 @@ module _ (i e : ℕ) (c : Count) (b : Body) (x : Triple) (l : isLawful (b .plan)
           asked-is (Survey 0) c (movedBack i b x) out l n (rw u (backward-last i e b x h k))
           ∙ ap (λ (t : Course). settle t (c .number) (c .evals) out) (sym (seeing-is 0 (movedBack i b x)) ∙ ap (λ (m : ℕ). behind m (movedBack i b x)) (sym z))
 
-  survey-taken-is : (out : List Float) → Counts (Survey i) e b → seen (surveyTaken i c b x out) ≡ settle (seeing (later i) (surveyed i b x)) (c .number) (c .evals) out
+  survey-taken-is : (out : Room) → Counts (Survey i) e b → seen (surveyTaken i c b x out) ≡ settle (seeing (later i) (surveyed i b x)) (c .number) (c .evals) out
   unfolding surveyTaken surveyed survey
   survey-taken-is out k = go (ltb i 8) refl
     where
@@ -82,7 +81,7 @@ module _ (i e : ℕ) (c : Count) (b : Body) (x : Triple) (l : isLawful (b .plan)
           let h : 8 ≤ i = ltb-false _ _ q in
           rw (later-none i h) (passes-on-is c (surveyed i b x) l n (rw u (survey-last i e b x h k)) out)
 
-  pass-taken-is : (out : List Float) → Counts (Pass i) e b → seen (passTaken i c b x out) ≡ settle (renewing (later i) (renewed i b x)) (c .number) (c .evals) out
+  pass-taken-is : (out : Room) → Counts (Pass i) e b → seen (passTaken i c b x out) ≡ settle (renewing (later i) (renewed i b x)) (c .number) (c .evals) out
   unfolding passTaken renewed renew
   pass-taken-is out k = go (ltb i 8) refl
     where
@@ -96,7 +95,7 @@ module _ (i e : ℕ) (c : Count) (b : Body) (x : Triple) (l : isLawful (b .plan)
           rw (later-none i h) (pass-ended-is c (renewed i b x) out l n (rw u (pass-last i e b x h k)))
 
   -- after i corrector passes
-  step-taken-is : (out : List Float) → Counts (Step i) e b → seen (stepTaken i c b x out) ≡ settle (next (Step i) b x) (c .number) (c .evals) out
+  step-taken-is : (out : Room) → Counts (Step i) e b → seen (stepTaken i c b x out) ≡ settle (next (Step i) b x) (c .number) (c .evals) out
   unfolding stepTaken next restAt questionAt endPoint tried due committed
   step-taken-is out k =
       rw (correct-on (b .plan) i (b .track) (b .trial .fixed) (b .trial .state) x (landing b))
@@ -129,7 +128,7 @@ module _ (i e : ℕ) (c : Count) (b : Body) (x : Triple) (l : isLawful (b .plan)
       go false true q = made (b .trial .state)
       go false false q = made (b .trial .state)
 
-  tail-end-is : (out : List Float) → Counts (Tail Fourth) e b → seen (quiet (tailEnded c b x) out) ≡ settle (tailed b (endOfTail b x)) (c .number) (c .evals) out
+  tail-end-is : (out : Room) → Counts (Tail Fourth) e b → seen (quiet (tailEnded c b x) out) ≡ settle (tailed b (endOfTail b x)) (c .number) (c .evals) out
   unfolding tailEnded tailed settle solutionOf told restAt questionAt lastPoint next tried last
   tail-end-is out k = go (wantsSamples (b .plan .settings)) refl
     where
@@ -145,24 +144,24 @@ module _ (i e : ℕ) (c : Count) (b : Body) (x : Triple) (l : isLawful (b .plan)
       go true q = sample-asked q
       go false q = ended-is (solutionOf (b .plan .tf) (endOfTail b x) c (b .track .steps + 1) b) out
 
-  last-taken-is : (out : List Float) → Counts TailSample e b → seen (lastTaken c b x out) ≡ settle (last b (b .trial .state) x) (c .number) (c .evals) out
-  unfolding lastTaken last settle solutionOf told
+  last-taken-is : (out : Room) → Counts TailSample e b → seen (lastTaken c b x out) ≡ settle (last b (b .trial .state) x) (c .number) (c .evals) out
+  unfolding lastTaken last settle solutionOf told ending
   last-taken-is out k =
       sampling-is (b .track .steps + 1) (lastSample (b .plan) (b .trial .state) x ∷ []) b out
       (ending (solutionOf (b .plan .tf) (b .trial .state) c (b .track .steps + 1) b))
       (ends (b .plan .tf) (b .trial .state) (b .track .steps + 1) (b .«startup_iters»)) (c .number) (c .evals)
-      (ended-is (solutionOf (b .plan .tf) (b .trial .state) c (b .track .steps + 1) b))
+      refl (ended-is (solutionOf (b .plan .tf) (b .trial .state) c (b .track .steps + 1) b))
       ∙ ap (λ (t : Course). settle t (c .number) (c .evals) out) (wanted-is (b .plan) (b .track .steps + 1) _ _ (k .0))
 
 -- ---- an RK4 step, whose waiting points are w and whose end leads to k
 -- a question whose rest is known by another name
-asked-by : (v : Waiting) (c : Count) (b : Body) (out : List Float) {z : Body → Triple → Course} → isLawful (b .plan) ≡ true → c .number ≡ c .evals % numbering
+asked-by : (v : Waiting) (c : Count) (b : Body) (out : Room) {z : Body → Triple → Course} → isLawful (b .plan) ≡ true → c .number ≡ c .evals % numbering
     → next v ≡ z → Counts v (c .evals) b → seen (quiet (asking v c b) out) ≡ settle (asks (questionAt v b) (z b)) (c .number) (c .evals) out
 unfolding restAt
 asked-by v c b out l n e h =
     asked-is v c b out l n h ∙ ap (λ (y : Body → Triple → Course). settle (asks (questionAt v b) (y b)) (c .number) (c .evals) out) e
 
-rk4-is : (w : Stage → Waiting) (k : Body → Triple → Course) (c : Count) (b : Body) (x : Triple) (out : List Float) (end : Answered)
+rk4-is : (w : Stage → Waiting) (k : Body → Triple → Course) (c : Count) (b : Body) (x : Triple) (out : Room) (end : Answered)
     → isLawful (b .plan) ≡ true → c .number ≡ c .evals % numbering
     → ((s : Stage) → next (w s) ≡ stage w k s)
     → (s : Stage) → (isLast s ≡ false → Counts (w (stageAfter s)) (c .evals) (kept s b x)) → (s ≡ Fourth → seen (quiet end out) ≡ settle (k b x) (c .number) (c .evals) out)
@@ -174,7 +173,7 @@ rk4-is w k c b x out end l n f Third g h = asked-by (w Fourth) c (kept Third b x
 rk4-is w k c b x out end l n f Fourth g h = h refl
 
 -- ---- the one-call lemma, a line for each waiting point
-point-is : (w : Waiting) (c : Count) (b : Body) (x : Triple) (out : List Float) → isLawful (b .plan) ≡ true → c .number ≡ c .evals % numbering → Counts w (c .evals) b
+point-is : (w : Waiting) (c : Count) (b : Body) (x : Triple) (out : Room) → isLawful (b .plan) ≡ true → c .number ≡ c .evals % numbering → Counts w (c .evals) b
     → seen (answeredAt w (nextCount c) b x out) ≡ settle (next w b x) (nextCount c .number) (nextCount c .evals) out
 unfolding answeredAt next restAt surveyed nextCount
 point-is Epoch c b x out l n k =
@@ -207,7 +206,7 @@ call-is run k = go (isSound run) refl
         (quiet (refusing run NotThatQuestion) (k .out)))
         ≡ cond d
         (settle (next (waitsAt (run .mark)) (run .body) (k .a)) (nextCount (run .mark .count) .number) (nextCount (run .mark .count) .evals) (k .out))
-        (record { said = refused 8; out = k .out; line = opened (run .mark .count .number) (run .mark .count .evals) (rest run) })
+        (record { said = refused 8; stored = 0; out = k .out; line = opened (run .mark .count .number) (run .mark .count .evals) (rest run) })
     right true f e = point-is (waitsAt (run .mark)) (run .mark .count) (run .body) (k .a) (k .out) (f .lawful) (f .numbered) (f .counted)
     right false f e = simp e
 

@@ -26,7 +26,7 @@ use Rattle.gauss_jackson.specs.declared.Answered.{Answered}
 use Rattle.gauss_jackson.specs.declared.Outcome.the-variants.{Refused}
 use Rattle.gauss_jackson.specs.Answers.{asking, answered, startedBy, started}
 use Rattle.rules.specs.Rules.{Course, asks, forward, backward, others, survey, passes, fly, integrate}
-use Rattle.rules.specs.Walk.{told, Call, Result, Stop, settle, walk, beginBy, begin}
+use Rattle.rules.specs.Walk.{told, Call, Result, Stop, noRoom, settle, walk, beginBy, begin}
 use Rattle.rules.specs.Follows.{heard, played, FollowsTheRules}
 use Rattle.rules.proofs.Rest.{next, restAt, lineOf, seen}
 use Rattle.rules.proofs.Bridge.{asked-is, ended-is}
@@ -38,7 +38,7 @@ unfolding played walk seen
 follows [] run = refl
 follows (k ∷ cs) run =
     ap (λ (l : List Result). heard (answered run (k .number) (k .a) (k .out)) ∷ l) (follows cs (answered run (k .number) (k .a) (k .out) .got .run))
-    ∙ ap (λ (s : Stop). record { said = s .said; out = s .out } ∷ walk (s .line) cs) (call-is run k)
+    ∙ ap (λ (s : Stop). record { said = s .said; stored = s .stored; out = s .out } ∷ walk (s .line) cs) (call-is run k)
 
 -- the rest of a started run is the whole integration
 started-is : (p : Plan) (r0 v0 : Triple) → restAt Epoch (freshBody p r0 v0) ≡ integrate p r0 v0
@@ -52,7 +52,7 @@ started-is p r0 v0 =
 
 -- what is seen of a start
 unfoldable pub begun : Answered → Stop
-begun x = record { said = told (x .outcome); out = []; line = lineOf (x .run) }
+begun x = record { said = told (x .outcome); stored = x .stored; out = noRoom; line = lineOf (x .run) }
 
 pub begins : (s : Settings) (t0 tf : Float) (r0 v0 : Triple) → begun (started s t0 tf r0 v0) ≡ begin s t0 tf r0 v0
 unfolding begun started startedBy begin beginBy freshBody planOf seen told
@@ -64,14 +64,14 @@ begins s t0 tf r0 v0 = go (split p)
     by : {v : Verdict} → verdictOn p ≡ v → begun (startedBy v p r0 v0) ≡ beginBy v p r0 v0 → begun (startedBy (verdictOn p) p r0 v0) ≡ beginBy (verdictOn p) p r0 v0
     by e h = subst (λ (v : Verdict). begun (startedBy v p r0 v0) ≡ beginBy v p r0 v0) (sym e) h
 
-    asked : isLawful p ≡ true → begun (asking Epoch (record { number = 0; evals = 0 }) (freshBody p r0 v0)) ≡ settle (integrate p r0 v0) 0 0 []
+    asked : isLawful p ≡ true → begun (asking Epoch (record { number = 0; evals = 0 }) (freshBody p r0 v0)) ≡ settle (integrate p r0 v0) 0 0 noRoom
     asked e =
-        asked-is Epoch (record { number = 0; evals = 0 }) (freshBody p r0 v0) [] e refl (refl, record { passes = refl; steps = refl })
-        ∙ ap (λ (t : Course). settle t 0 0 []) (started-is p r0 v0)
+        asked-is Epoch (record { number = 0; evals = 0 }) (freshBody p r0 v0) noRoom e refl (refl, record { passes = refl; steps = refl })
+        ∙ ap (λ (t : Course). settle t 0 0 noRoom) (started-is p r0 v0)
 
     go : Case p → begun (startedBy (verdictOn p) p r0 v0) ≡ beginBy (verdictOn p) p r0 v0
-    go (not-lawful l e) = by e (ended-is (Refused (faultOf p)) [])
-    go (too-near l n e) = by e (ended-is (Refused StepNotFinite) [])
+    go (not-lawful l e) = by e (ended-is (Refused (faultOf p)) noRoom)
+    go (too-near l n e) = by e (ended-is (Refused StepNotFinite) noRoom)
     go (fine l n e) = by e (asked l)
 
 -- demand 2

@@ -2,7 +2,6 @@
 use mathlib.Core.Path.{_≡_, refl, sym, ap, subst, _∙_}
 use Prim.Native.Nat.{ℕ, _+_, _%_}
 use mathlib.Core.Bool.{Bool, true, false, cond, false≢true}
-use mathlib.Core.List.{List, []}
 use lib.Dec.{eqb}
 use lib.ListN.{length}
 use lib.Ieee.{Float}
@@ -16,7 +15,7 @@ use Rattle.run.specs.declared.Run.{Run}
 use Rattle.triple.specs.declared.Triple.{Triple}
 use Rattle.run.specs.Limits.{numbering}
 use Rattle.run.specs.Waiting.{waitsAt}
-use Rattle.run.specs.Samples.{hasRoom, putAll}
+use Rattle.run.specs.Samples.{Room, hasRoom, putAll}
 use Rattle.run.specs.Sound.{isSound}
 use Rattle.gauss_jackson.specs.declared.Outcome.{Outcome}
 use Rattle.gauss_jackson.specs.declared.Outcome.the-variants.{Refused}
@@ -24,7 +23,7 @@ use Rattle.refusals.specs.Numbers.{numberOf}
 use Rattle.refusals.specs.declared.Refusal.the-variants.{NoQuestion, NotThatQuestion}
 use Rattle.gauss_jackson.specs.Answers.{quiet, nextCount, questionOf, answeredAt, refusing, answered, started, openQuestion}
 use Rattle.rules.specs.Rules.{Course, asks, stores, ends, exceeds, integrate}
-use Rattle.rules.specs.Walk.{Said, question, refused, finished, told, Call, Line, open-at, over, Stop, settle, called, beginBy, begin}
+use Rattle.rules.specs.Walk.{Said, question, refused, finished, told, Call, Line, open-at, over, Stop, afterStoring, noRoom, settle, called, beginBy, begin}
 use Rattle.rules.specs.Follows.{NeverSeven, TellsAgain}
 use Rattle.rules.proofs.Rest.{restAt, rest, opened, lineOf, seen}
 use Rattle.rules.proofs.Calls.{call-is}
@@ -52,12 +51,12 @@ left-by : (d : Bool) (x y : Stop) → Left x → Left y → Left (cond d x y)
 left-by true x y f g = f
 left-by false x y f g = g
 
-nothing-asked : (i : ℕ) (out : List Float) (l : Line) → Left (record { said = refused i; out = out; line = l })
+nothing-asked : (i : ℕ) (out : Room) (l : Line) → Left (record { said = refused i; stored = 0; out = out; line = l })
 unfolding isAsked Left
 nothing-asked i out l h = absurd (false≢true h)
 
-settled-left : (t : Course) (n e : ℕ) (out : List Float) → Left (settle t n e out)
-unfolding settle isOpen isAsked standing Left
+settled-left : (t : Course) (n e : ℕ) (out : Room) → Left (settle t n e out)
+unfolding settle afterStoring isOpen isAsked standing Left
 settled-left (asks q k) n e out = λ h. (refl, refl)
 settled-left (stores i ss t) n e out = left-by (hasRoom i (length ss) out) _ _ (settled-left t n e (putAll i ss out)) (nothing-asked 6 out over)
 settled-left (ends t y steps startups) n e out = λ h. absurd (false≢true h)
@@ -71,8 +70,8 @@ called-left over k = nothing-asked 7 (k .out) over
 
 begun-left : (v : Verdict) (p : Plan) (r0 v0 : Triple) → Left (beginBy v p r0 v0)
 unfolding beginBy
-begun-left Fine p r0 v0 = settled-left (integrate p r0 v0) 0 0 []
-begun-left (Refuse e) p r0 v0 = nothing-asked (numberOf e) [] over
+begun-left Fine p r0 v0 = settled-left (integrate p r0 v0) 0 0 noRoom
+begun-left (Refuse e) p r0 v0 = nothing-asked (numberOf e) noRoom over
 
 -- a line that is open is that of a sound run
 open-sound : (run : Run) → isOpen (lineOf run) ≡ true → isSound run ≡ true

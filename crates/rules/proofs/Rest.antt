@@ -138,4 +138,4 @@ lineOf run = cond (isSound run) (opened (run .mark .count .number) (run .mark .c
 
 -- what is seen of a call
 unfoldable pub seen : Given → Stop
-seen t = record { said = told (t .got .outcome); out = t .out; line = lineOf (t .got .run) }
+seen t = record { said = told (t .got .outcome); stored = t .got .stored; out = t .out; line = lineOf (t .got .run) }

@@ -1,4 +1,4 @@
--- Demand 2 as one statement: any line of calls from `start` is told, and leaves in its buffers, what the rules give.
+-- Demand 2 as one statement: any line of calls from `start` is told, and leaves in its rooms, what the rules give.
 -- The proof is `follows-the-rules` in proofs/Follows.antt; the contracts of `start` and `answer` are equations with `started` and `answered`.
 use mathlib.Core.Path.{_≡_}
 use Prim.Native.Nat.{ℕ}
@@ -18,7 +18,7 @@ use Rattle.rules.specs.Walk.{question, told, Call, Result, walk, begin}
 
 -- what the caller has of one call of `answer`
 abbrev pub heard : Given → Result
-heard t = record { said = told (t .got .outcome); out = t .out }
+heard t = record { said = told (t .got .outcome); stored = t .got .stored; out = t .out }
 
 -- calls one after the other, each on the run that the one before left
 unfoldable pub played : Run → List Call → List Result
