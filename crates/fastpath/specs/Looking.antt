@@ -1,5 +1,5 @@
 -- What an answer at a step's end leads to, by the parts of a run that this takes: m its mark, p its plan, k its track, t its trial, S its startup
--- passes; `a` is the acceleration answered, `room` how many numbers the buffer has.
+-- passes; `a` is the acceleration answered, `from` the sample that the room begins at, `room` how many numbers it has.
 use Prim.Native.Nat.{ℕ, _+_}
 use mathlib.Core.Bool.{Bool, true, false, not, _&&_, cond}
 use lib.Dec.{eqb, ltb}
@@ -33,8 +33,8 @@ isMade n p s t a =
     true
 
 -- a further step follows at t, after n of them, and the sample that is due, if any, has its place
-unfoldable pub isFollowed : Plan → (t : Float) (n room : ℕ) → Bool
-isFollowed p t n room = hasPlace (wantsSamples (p .settings)) n room && isDue p t && ltb n (p .settings .«max_steps») && not (isTail p t)
+unfoldable pub isFollowed : Plan → (t : Float) (n from room : ℕ) → Bool
+isFollowed p t n from room = hasPlace (wantsSamples (p .settings)) from n 1 room && isDue p t && ltb n (p .settings .«max_steps») && not (isTail p t)
 
 -- neither: the answer goes the plain way
 unfoldable pub lookedAway : Mark → Track → Trial → Look
@@ -45,13 +45,13 @@ unfoldable pub lookedAgain : (n : ℕ) → Count → Track → State → Look
 lookedAgain n c k y = record { again = true; on = false; mark = markAt (Step (n + 1)) c; state = y; steps = k .steps }
 
 -- the open step is made at y, and the next one is open, if one follows
-unfoldable pub lookedOn : Plan → Count → Track → State → (room : ℕ) → Look
-lookedOn p c k y room =
-    record { again = false; on = isFollowed p (add binary64 (k .t) (p .h)) (k .steps + 1) room; mark = markAt (Step 0) c; state = y; steps = k .steps + 1 }
+unfoldable pub lookedOn : Plan → Count → Track → State → (from room : ℕ) → Look
+lookedOn p c k y from room =
+    record { again = false; on = isFollowed p (add binary64 (k .t) (p .h)) (k .steps + 1) from room; mark = markAt (Step 0) c; state = y; steps = k .steps + 1 }
 
-unfoldable pub lookedAt : Mark → Plan → Track → Trial → (S number : ℕ) → Triple → (room : ℕ) → Look
-lookedAt m p k t S number a room =
+unfoldable pub lookedAt : Mark → Plan → Track → Trial → (S number : ℕ) → Triple → (from room : ℕ) → Look
+lookedAt m p k t S number a from room =
     let y = reached (m .index) p (k .sums) t a in
     cond (isOpenStep m p S (k .steps) && eqb (m .count .number) number)
-    (cond (isMade (m .index) p (k .sums) t a) (lookedOn p (nextCount (m .count)) k y room) (lookedAgain (m .index) (nextCount (m .count)) k y))
+    (cond (isMade (m .index) p (k .sums) t a) (lookedOn p (nextCount (m .count)) k y from room) (lookedAgain (m .index) (nextCount (m .count)) k y))
     (lookedAway m k t)

@@ -1,4 +1,6 @@
 -- What changes in a run by such an answer, and the run with what changed. l is what was looked at; the other letters are those of `Looking`.
+use Prim.Native.Nat.{ℕ}
+use mathlib.Core.Bool.{Bool, cond}
 use mathlib.Core.List.{List}
 use lib.Ieee.{Float, binary64, add}
 use Rattle.triple.specs.declared.Triple.{Triple}
@@ -11,7 +13,7 @@ use Rattle.run.specs.declared.Mark.{Mark}
 use Rattle.run.specs.declared.Track.{Track}
 use Rattle.run.specs.declared.Trial.{Trial}
 use Rattle.run.specs.declared.Run.{Run}
-use Rattle.run.specs.Samples.{stepSample, keptSample}
+use Rattle.run.specs.Samples.{Room, stepSample, keptSample}
 use Rattle.gauss_jackson.specs.declared.Question.{Question}
 use Rattle.gauss_jackson.specs.declared.Outcome.the-variants.{Ask}
 use Rattle.gauss_jackson.specs.Answers.{Given}
@@ -35,6 +37,10 @@ askedAgain l p k t =
 unfoldable pub trackBy : Look → Plan → Track → Triple → Track
 trackBy l p k a = record { t = add binary64 (k .t) (p .h); steps = l .steps; state = l .state; sums = onSums (k .sums) a }
 
+-- how many samples a step stores
+unfoldable pub storedBy : (wanted : Bool) → ℕ
+storedBy wanted = cond wanted 1 0
+
 -- the step is made, and the next one is open at its prediction
 unfoldable pub madeStep : Look → Plan → Track → (old : List Triple) → Triple → Stepped
 madeStep l p k old a =
@@ -46,12 +52,13 @@ madeStep l p k old a =
       track = next;
       trial = record { state = y; fixed = fixedOf (slid old a) };
       question = askedAt (l .mark) (add binary64 (next .t) (p .h)) y;
+      stored = storedBy (wantsSamples (p .settings));
     }
 
--- the buffer with the sample of the step that is made
-unfoldable pub keptStep : Look → Plan → Track → (old : List Triple) → Triple → List Float → List Float
-keptStep l p k old a out =
-    let next = trackBy l p k a in keptSample (wantsSamples (p .settings)) (next .steps) (stepSample next (slid old a)) out
+-- the room with the sample of the step that is made
+unfoldable pub keptStep : Look → Plan → Track → (old : List Triple) → Triple → (from : ℕ) → List Float → List Float
+keptStep l p k old a from numbers =
+    let next = trackBy l p k a in keptSample (wantsSamples (p .settings)) from (next .steps) (stepSample next (slid old a)) numbers
 
 -- ---- the run with what changed
 abbrev pub withTrial : Run → Mark → Trial → Run
@@ -89,8 +96,8 @@ withStep run m window k t =
     }
 
 -- ---- what such an answer gives, as `answered` tells it
-abbrev pub triedGiven : Run → Tried → List Float → Given
-triedGiven run d out = record { got = record { run = withTrial run (d .mark) (d .trial); outcome = Ask (d .question) }; out = out }
+abbrev pub triedGiven : Run → Tried → Room → Given
+triedGiven run d out = record { got = record { run = withTrial run (d .mark) (d .trial); outcome = Ask (d .question); stored = 0 }; out = out }
 
-abbrev pub steppedGiven : Run → Stepped → List Float → Given
-steppedGiven run d out = record { got = record { run = withStep run (d .mark) (d .a) (d .track) (d .trial); outcome = Ask (d .question) }; out = out }
+abbrev pub steppedGiven : Run → Stepped → Room → Given
+steppedGiven run d out = record { got = record { run = withStep run (d .mark) (d .a) (d .track) (d .trial); outcome = Ask (d .question); stored = d .stored }; out = out }

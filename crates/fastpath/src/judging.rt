@@ -42,11 +42,11 @@ pub fn reach(n: u8, plan: Plan, sums: Sums, trial: Trial, a: Triple) -> Reached
 }
 
 // Whether a further step follows at t, after n of them, and the sample that is due, if any, has its place among so many numbers.
-fn is_followed(plan: Plan, t: f64, n: u64, room: usize) -> bool
-    ensures { λ b. ⌜ b ≡ isFollowed plan t n room ⌝ }
+fn is_followed(plan: Plan, t: f64, n: u64, from: u64, room: usize) -> bool
+    ensures { λ b. ⌜ b ≡ isFollowed plan t n from room ⌝ }
 {
     let wanted = limits::wants_samples(plan.settings);
-    if !samples::has_place(wanted, n, room) {
+    if !samples::has_place(wanted, from, n, 1, room) {
         return false;
     }
     if !conditions::is_due(plan, t) {
@@ -103,12 +103,12 @@ pub fn look_again(n: u8, count: Count, track: Track, state: State) -> Look
 }
 
 // The open step is made, and the next one is open, if one follows.
-pub fn look_on(plan: Plan, count: Count, track: Track, state: State, room: usize) -> Look
+pub fn look_on(plan: Plan, count: Count, track: Track, state: State, from: u64, room: usize) -> Look
     requires { ⌜ track .steps < ample ⌝ }
-    ensures { λ l. ⌜ l ≡ lookedOn plan count track state room ⌝ }
+    ensures { λ l. ⌜ l ≡ lookedOn plan count track state from room ⌝ }
 {
     let steps = track.steps + 1;
-    let on = is_followed(plan, track.t + plan.h, steps, room);
+    let on = is_followed(plan, track.t + plan.h, steps, from, room);
     let mark = Mark {
         at: AT_STEP,
         index: 0,

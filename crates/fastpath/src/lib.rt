@@ -15,7 +15,7 @@ use triple::Triple;
 use triple::nine;
 ghost use mathlib.Core.Path.{_≡_};
 ghost use Rattle.fastpath.specs.Looking.{lookedAt};
-ghost use Rattle.fastpath.specs.Moving.{askedAt, askedAgain, trackBy, madeStep, keptStep};
+ghost use Rattle.fastpath.specs.Moving.{askedAt, askedAgain, trackBy, storedBy, madeStep, keptStep};
 
 mod judging;
 
@@ -36,16 +36,17 @@ pub struct Tried {
     pub question: Question,
 }
 
-// What changes where a step is made and the next one is open, and its question.
+// What changes where a step is made and the next one is open, its question, and how many samples are stored.
 pub struct Stepped {
     pub mark: Mark,
     pub a: [Triple; 9],
     pub track: Track,
     pub trial: Trial,
     pub question: Question,
+    pub stored: u64,
 }
 
-// What the answer `a` under `number` leads to, with room for so many numbers of samples.
+// What the answer `a` under `number` leads to, with room for so many numbers of samples from sample `from` on.
 pub fn look_at(
     mark: Mark,
     plan: Plan,
@@ -54,9 +55,10 @@ pub fn look_at(
     passes: u64,
     number: u16,
     a: Triple,
+    from: u64,
     room: usize,
 ) -> Look
-    ensures { λ l. ⌜ l ≡ lookedAt mark plan track trial passes number a room ⌝ }
+    ensures { λ l. ⌜ l ≡ lookedAt mark plan track trial passes number a from room ⌝ }
 {
     if !sound::is_open_step(mark, plan, passes, track.steps) {
         return judging::look_away(mark, track, trial);
@@ -68,7 +70,7 @@ pub fn look_at(
     let end = judging::reach(n, plan, track.sums, trial, a);
     let count = judging::next_count(mark.count);
     if end.made {
-        return judging::look_on(plan, count, track, end.state, room);
+        return judging::look_on(plan, count, track, end.state, from, room);
     }
     judging::look_again(n, count, track, end.state)
 }
@@ -116,6 +118,13 @@ fn track_by(look: Look, plan: Plan, track: Track, a: Triple) -> Track
     }
 }
 
+// How many samples a step stores.
+fn stored_by(wanted: bool) -> u64
+    ensures { λ m. ⌜ m ≡ storedBy wanted ⌝ }
+{
+    if wanted { 1 } else { 0 }
+}
+
 // The step is made, with the acceleration `a`, and the next one is open at its prediction. Its sample is stored last: a store into the
 // buffer pins every copy that is made before it.
 pub fn make_step(
@@ -124,9 +133,10 @@ pub fn make_step(
     track: Track,
     old: [Triple; 9],
     a: Triple,
+    from: u64,
     out: &mut [f64],
 ) -> Stepped
-    ensures { λ x. ⌜ (x ≡ madeStep look plan track old a) × (now (out .exit) ≡ keptStep look plan track old a (now (out .entry))) ⌝ }
+    ensures { λ x. ⌜ (x ≡ madeStep look plan track old a) × (now (out .exit) ≡ keptStep look plan track old a from (now (out .entry))) ⌝ }
 {
     let mark = look.mark;
     let next = track_by(look, plan, track, a);
@@ -136,12 +146,20 @@ pub fn make_step(
     let question = ask_at(mark, next.t + plan.h, state);
     let trial = Trial { state, fixed };
     let wanted = limits::wants_samples(plan.settings);
-    samples::keep_sample(wanted, next.steps, samples::step_sample(next, window), out);
+    let stored = stored_by(wanted);
+    samples::keep_sample(
+        wanted,
+        from,
+        next.steps,
+        samples::step_sample(next, window),
+        out,
+    );
     Stepped {
         mark,
         a: window,
         track: next,
         trial,
         question,
+        stored,
     }
 }
