@@ -1,7 +1,7 @@
 -- 01, "Numbered answers", and 02: the number of each refusal.
 use Prim.Native.Nat.{ℕ}
 use Rattle.refusals.specs.declared.Refusal.{Refusal}
-use Rattle.refusals.specs.declared.Refusal.the-variants.{StepNotFinite, MaxStepsExceeded, NoDenseOutput, InterpOutOfBounds, Setting, SampleRoom, NoQuestion, NotThatQuestion, Shape, StoredShape, StoredContent, BlankDate, NotWhole, TooFewSteps}
+use Rattle.refusals.specs.declared.Refusal.the-variants.{StepNotFinite, MaxStepsExceeded, NoDenseOutput, InterpOutOfBounds, Setting, SampleRoom, NoQuestion, NotThatQuestion, Shape, StoredShape, StoredContent, BlankDate, NotWhole, TooFewSteps, TooLow, InputLine}
 use Rattle.refusals.specs.declared.Told.{Told}
 use Rattle.refusals.specs.declared.Told.the-variants.{Written, Refused}
 
@@ -25,6 +25,10 @@ numberOf BlankDate = 12
 numberOf NotWhole = 13
 -- and "14 for max_steps below K"
 numberOf TooFewSteps = 14
+-- W-207: "15 ends the run when a question's distance is below 1 km or NaN"
+numberOf TooLow = 15
+-- and "a missing, extra or misshapen input line prints 19"
+numberOf InputLine = 19
 
 -- a refusal's number, and 0 where all is written
 abbrev pub numberTold : Told → ℕ

@@ -18,6 +18,8 @@ pub enum Refusal {
     BlankDate,
     NotWhole,
     TooFewSteps,
+    TooLow,
+    InputLine,
 }
 
 // What a call tells that writes into a lent buffer.
@@ -45,6 +47,8 @@ pub fn number_of(refusal: Refusal) -> u8
         Refusal::BlankDate => 12,
         Refusal::NotWhole => 13,
         Refusal::TooFewSteps => 14,
+        Refusal::TooLow => 15,
+        Refusal::InputLine => 19,
     }
 }
 
