@@ -1,0 +1,15 @@
+-- 398600.4418 is away from the half-way points, which is computed, so mu is the f64 nearest to it.
+use mathlib.Core.Path.{refl}
+use lib.Ieee.{size, round, ofBits}
+use Rattle.double.specs.Nearest.{nearestDouble}
+use Rattle.double.proofs.Nearest.{isBetweenHalves, isNoTie, nearest-double}
+use Rattle.point_mass.specs.Force.{muDecimal, mu}
+use Rattle.point_mass.specs.Nearest.{NearestOfMu, BitsOfMu}
+
+pub mu-nearest : NearestOfMu
+unfolding mu isNoTie isBetweenHalves size
+mu-nearest = nearest-double muDecimal tt
+
+pub mu-bits : BitsOfMu
+unfolding mu nearestDouble round ofBits
+mu-bits = refl
