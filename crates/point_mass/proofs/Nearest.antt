@@ -4,12 +4,12 @@ use lib.Ieee.{size, round, ofBits}
 use Rattle.double.specs.Nearest.{nearestDouble}
 use Rattle.double.proofs.Nearest.{isBetweenHalves, isNoTie, nearest-double}
 use Rattle.point_mass.specs.Force.{muDecimal, mu}
-use Rattle.point_mass.specs.Nearest.{NearestOfMu, BitsOfMu}
+use Rattle.point_mass.specs.Nearest.{NearestOfMu, PatternOfMu}
 
 pub mu-nearest : NearestOfMu
 unfolding mu isNoTie isBetweenHalves size
 mu-nearest = nearest-double muDecimal tt
 
-pub mu-bits : BitsOfMu
+pub mu-pattern : PatternOfMu
 unfolding mu nearestDouble round ofBits
-mu-bits = refl
+mu-pattern = refl

@@ -1,2 +1,3 @@
 pub mod Force
+pub mod Low
 pub mod Nearest
