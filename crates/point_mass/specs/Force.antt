@@ -34,7 +34,7 @@ pull r = record { x = pullAlong (distance r) (r .x); y = pullAlong (distance r) 
 abbrev pub lowest : Float
 lowest = fin false 1 (pos 0)
 
--- "a question's distance is below 1 km or NaN": not at or above 1
+-- 15: "when a question's distance is below 1 km or NaN", which is not at or above 1 (`BelowOrNan` in specs/Low.antt)
 unfoldable pub isTooLow : Float → Bool
 isTooLow d = not (le lowest d)
 

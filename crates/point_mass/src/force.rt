@@ -26,7 +26,7 @@ pub fn is_too_low(d: f64) -> bool
     !(d >= 1.0)
 }
 
-// The pull is worked out where it is too low as well: that costs a test less, and no one asks for it there.
+// The pull is worked out where that is too low as well, which saves a branch; no one reads it there.
 pub fn pull_at(r: Triple) -> Pulled
     ensures { λ p. ⌜ p ≡ pullAt r ⌝ }
 {
