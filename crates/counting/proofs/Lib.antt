@@ -11,6 +11,7 @@ pub mod OnTime
 pub mod Lines
 pub mod Starts
 pub mod Runs
+pub mod Rooms
 pub mod Starred
 pub mod Standstill
 pub mod Year

@@ -12,12 +12,13 @@ use Rattle.plan.specs.Plan.{planOf}
 use Rattle.plan.specs.Verdict.{verdictOn}
 use Rattle.rules.specs.Rules.{integrate}
 use Rattle.gauss_jackson.specs.Answers.{started}
-use Rattle.rules.specs.Walk.{question, told, Call, Result, Stop, settle, walk}
+use Rattle.rules.specs.Walk.{question, told, Call, Result, Line, Stop, noRoom, settle, walk, begin}
 use Rattle.rules.specs.Follows.{played}
 use Rattle.rules.proofs.Follows.{follows-the-rules}
 use Rattle.counting.specs.Paths.{Claims, Always}
 use Rattle.counting.specs.Counting.{spanOf, mostFor, mostBefore, Bounds, OnTime, onTime}
-use Rattle.counting.specs.Runs.{Going, answersIn, Finishes, Roomy, roomFor, FinishesOnTime}
+use Rattle.counting.specs.Runs.{Going, answersIn, Finishes, FinishesOnTime}
+use Rattle.counting.specs.Rooms.{Roomy, roomFor}
 use Rattle.counting.proofs.OnTime.{ends-on-time}
 use Rattle.counting.proofs.Lines.{Limits, going, finishing}
 use Rattle.counting.proofs.Starts.{accepted-start}
@@ -34,21 +35,25 @@ module _ (s : Settings) (t0 tf : Float) (r0 v0 : Triple) (accepted : verdictOn (
   abbrev results : List Call → List Result
   results cs = played (started s t0 tf r0 v0 .run) cs
 
-  walks : (cs : List Call) → Roomy N cs → Going c E 0 0 0 cs (walk (settle (integrate (planOf s t0 tf) r0 v0) 0 0 [] .line) cs)
+  abbrev line : Line
+  line = settle (integrate (planOf s t0 tf) r0 v0) 0 0 noRoom .line
+
+  walks : (cs : List Call) → Roomy line cs → Going c E 0 0 0 cs (walk line cs)
   unfolding settle integrate Always
   walks cs r = going c E N l 0 0 0 _ _ cs always r
 
-  pub line-goes : (cs : List Call) → Roomy N cs → Going c E 0 0 0 cs (results cs)
+  pub line-goes : (cs : List Call) → Roomy (begin s t0 tf r0 v0 .line) cs → Going c E 0 0 0 cs (results cs)
   line-goes cs r =
+      let e = accepted-start s t0 tf r0 v0 accepted in
       subst (Going c E 0 0 0 cs)
-      (sym (follows-the-rules s t0 tf r0 v0 cs .then ∙ ap (λ (x : Stop). walk (x .line) cs) (accepted-start s t0 tf r0 v0 accepted)))
-      (walks cs r)
+      (sym (follows-the-rules s t0 tf r0 v0 cs .then ∙ ap (λ (x : Stop). walk (x .line) cs) e))
+      (walks cs (subst (λ (x : Stop). Roomy (x .line) cs) e r))
 
-  pub line-ends : 0 < E → (cs : List Call) → Roomy N cs → E ≤ answersIn 0 cs (results cs) → Finishes (results cs)
+  pub line-ends : 0 < E → (cs : List Call) → Roomy (begin s t0 tf r0 v0 .line) cs → E ≤ answersIn 0 cs (results cs) → Finishes (results cs)
   line-ends some cs r u = finishing c E N l 0 0 0 cs (results cs) (line-goes cs r) some (omega arith)
 
 module _ {s : Settings} {t0 tf : Float} {z0 zf hz : ℤ} (b : Bounds s t0 tf z0 zf hz) (r0 v0 : Triple) where
-  limits : Limits (onTime s t0 tf z0 zf (natAbs hz)) (mostBefore s (spanOf z0 zf) (natAbs hz)) (roomFor s (spanOf z0 zf) (natAbs hz))
+  pub limits : Limits (onTime s t0 tf z0 zf (natAbs hz)) (mostBefore s (spanOf z0 zf) (natAbs hz)) (roomFor s (spanOf z0 zf) (natAbs hz))
   unfolding onTime roomFor
   limits =
       record {
@@ -62,7 +67,7 @@ module _ {s : Settings} {t0 tf : Float} {z0 zf hz : ℤ} (b : Bounds s t0 tf z0 
   unfolding mostBefore mostFor
   some-answers = omega arith
 
-  pub finishes-on-time : (cs : List Call) → Roomy (roomFor s (spanOf z0 zf) (natAbs hz)) cs → FinishesOnTime s t0 tf z0 zf hz r0 v0 cs
+  pub finishes-on-time : (cs : List Call) → Roomy (begin s t0 tf r0 v0 .line) cs → FinishesOnTime s t0 tf z0 zf hz r0 v0 cs
   finishes-on-time cs r =
       let x = ends-on-time b r0 v0 in
       let most = mostBefore s (spanOf z0 zf) (natAbs hz) in

@@ -1,7 +1,6 @@
 -- What a start is told, by its verdict.
 use mathlib.Core.Path.{_≡_, ap}
 use mathlib.Core.Bool.{true}
-use mathlib.Core.List.{[]}
 use lib.Ieee.{Float}
 use Rattle.triple.specs.declared.Triple.{Triple}
 use Rattle.refusals.specs.declared.Refusal.the-variants.{StepNotFinite}
@@ -13,14 +12,14 @@ use Rattle.plan.specs.Lawful.{isLawful}
 use Rattle.plan.specs.Verdict.{verdictOn}
 use Rattle.plan.proofs.Verdicts.{verdict-is}
 use Rattle.rules.specs.Rules.{integrate}
-use Rattle.rules.specs.Walk.{refused, Stop, settle, beginBy, begin}
+use Rattle.rules.specs.Walk.{refused, Stop, noRoom, settle, beginBy, begin}
 
 module _ (s : Settings) (t0 tf : Float) (r0 v0 : Triple) where
   pub begin-by : (v : Verdict) → verdictOn (planOf s t0 tf) ≡ v → begin s t0 tf r0 v0 ≡ beginBy v (planOf s t0 tf) r0 v0
   unfolding begin
   begin-by v e = ap (λ (u : Verdict). beginBy u (planOf s t0 tf) r0 v0) e
 
-  pub accepted-start : verdictOn (planOf s t0 tf) ≡ Fine → begin s t0 tf r0 v0 ≡ settle (integrate (planOf s t0 tf) r0 v0) 0 0 []
+  pub accepted-start : verdictOn (planOf s t0 tf) ≡ Fine → begin s t0 tf r0 v0 ≡ settle (integrate (planOf s t0 tf) r0 v0) 0 0 noRoom
   unfolding planOf beginBy
   accepted-start e = begin-by Fine e
 

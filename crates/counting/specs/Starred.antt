@@ -16,7 +16,7 @@ use Rattle.plan.specs.Limits.{maxSteps}
 use Rattle.plan.specs.Plan.{planOf}
 use Rattle.plan.specs.Lawful.{isLawful}
 use Rattle.rules.specs.Rules.{integrate}
-use Rattle.rules.specs.Walk.{refused, settle, begin}
+use Rattle.rules.specs.Walk.{refused, noRoom, settle, begin}
 use Rattle.counting.specs.Paths.{Claims, Always}
 
 -- what must come out, whatever the accelerations are
@@ -46,7 +46,7 @@ expecting (exceeds-at answers) =
 
 -- the start is accepted, and goes by the whole tree
 abbrev pub Accepted : Settings → Float → Float → Triple → Triple → Type 0
-Accepted s t0 tf r0 v0 = begin s t0 tf r0 v0 ≡ settle (integrate (planOf s t0 tf) r0 v0) 0 0 []
+Accepted s t0 tf r0 v0 = begin s t0 tf r0 v0 ≡ settle (integrate (planOf s t0 tf) r0 v0) 0 0 noRoom
 
 -- an example: a start, or the curve between two samples read at a time
 pub data Example : Type 0 where

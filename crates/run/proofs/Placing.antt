@@ -13,7 +13,7 @@ use Rattle.triple.specs.declared.Sample.{Sample}
 use Rattle.triple.specs.Sampled.{sampleWidth}
 use Rattle.startup.specs.declared.Places.{Places}
 use Rattle.plan.specs.declared.Plan.{Plan}
-use Rattle.run.specs.Samples.{Room, tens, numbersOf, isPlaced, hasRoom, written, put, putAll, gridSample, startSamples, keptSample, keptPoint, keptPoints}
+use Rattle.run.specs.Samples.{Room, tens, isPlaced, hasRoom, written, put, putAll, gridSample, startSamples, keptSample, keptPoint, keptPoints}
 use Rattle.run.proofs.Counts.{both}
 
 no-and : (d : Bool) {e : Bool} → e ≡ false → d && e ≡ false
@@ -47,19 +47,28 @@ module _ (from n : ℕ) (l : List Float) where
   unfolding isPlaced
   no-fit k = no-and (leb from n) (lt-leb (sampleWidth * (n - from + 1)) (length l) (omega (arith, k)))
 
--- ---- a room keeps its length
+-- ---- a room keeps its length, and so its places
 pub length-written : (i : ℕ) (s : Sample) (l : List Float) → length (written i s l) ≡ length l
 unfolding written
 length-written i s l = simp length-set
 
-pub length-put : (n : ℕ) (s : Sample) (out : Room) → length (numbersOf (put n s out)) ≡ length (numbersOf out)
-unfolding put numbersOf
-length-put n s (tens from l) = length-written (sampleWidth * (n - from)) s l
+room-put : (n m i : ℕ) (s : Sample) (out : Room) → hasRoom n m (put i s out) ≡ hasRoom n m out
+unfolding hasRoom put
+room-put n m i s (tens from l) = ap (isPlaced from n m) (length-written (sampleWidth * (i - from)) s l)
 
-pub length-put-all : (n : ℕ) (ss : List Sample) (out : Room) → length (numbersOf (putAll n ss out)) ≡ length (numbersOf out)
+pub room-put-all : (n m i : ℕ) (ss : List Sample) (out : Room) → hasRoom n m (putAll i ss out) ≡ hasRoom n m out
 unfolding putAll
-length-put-all n [] out = refl
-length-put-all n (s ∷ ss) out = length-put-all (n + 1) ss (put n s out) ∙ length-put n s out
+room-put-all n m i [] out = refl
+room-put-all n m i (s ∷ ss) out = room-put-all n m (i + 1) ss (put i s out) ∙ room-put n m i s out
+
+-- ---- where some samples have their place, so have those among them
+pub room-within : (n m i k : ℕ) (out : Room) → n ≤ i → i + k ≤ n + m → hasRoom n m out ≡ true → hasRoom i k out ≡ true
+unfolding hasRoom isPlaced
+room-within n m i k (tens from l) h g e =
+    let b = both (leb from n) (leb (sampleWidth * (n - from + m)) (length l)) e in
+    let f : from ≤ n = leb-true _ _ (b .0) in
+    let t : sampleWidth * (n - from + m) ≤ length l = leb-true _ _ (b .1) in
+    rw (le-leb from i (omega arith), le-leb (sampleWidth * (i - from + k)) (length l) (omega arith))
 
 -- ---- the startup's five samples
 module _ (from : ℕ) (p : Plan) (x : Places) (a : List Triple) where
