@@ -19,7 +19,7 @@ use Rattle.run.specs.Moves.{tried, committed, predicted}
 use Rattle.run.specs.Samples.{Room, tens, isPlaced, hasRoom, hasPlace, put, putAll, stepSample, keptSample}
 use Rattle.run.proofs.Counts.{both}
 use Rattle.gauss_jackson.specs.declared.Answered.{Answered}
-use Rattle.gauss_jackson.specs.Answers.{Given, quiet, asking, storing, sampling, onward, stepEnded, stepTaken}
+use Rattle.gauss_jackson.specs.Answers.{Given, quiet, asking, withStored, sampling, onward, stepEnded, stepTaken}
 use Rattle.fastpath.specs.Looking.{reached, isMade, isFollowed}
 
 module _ (n : ℕ) (c : Count) (b : Body) (a : Triple) (out : Room) where
@@ -65,7 +65,7 @@ pub ended-on : (c : Count) (b : Body) (from : ℕ) (l : List Float) → isFollow
       got = told-by (wantsSamples (b .plan .settings)) (asking (Step 0) c (predicted b));
       out = tens from (keptSample (wantsSamples (b .plan .settings)) from (b .track .steps) (stepSample (b .track) (b .a)) l);
     }
-unfolding isFollowed hasPlace stepEnded sampling storing onward keptSample hasRoom putAll put
+unfolding isFollowed hasPlace stepEnded sampling withStored onward keptSample hasRoom putAll put
 ended-on c b from l e =
     let h = both _ _ e in
     let i = both _ _ (h .0) in
@@ -73,7 +73,7 @@ ended-on c b from l e =
     go (wantsSamples (b .plan .settings)) (isPlaced from (b .track .steps) 1 (length l)) (isDue (b .plan) (b .track .t)) (ltb (b .track .steps) (b .plan .settings .«max_steps»)) (isTail (b .plan) (b .track .t)) (j .0) (j .1) (i .1) (not-true _ (h .1)) _ _ _ _ _ _ _
   where
     go : (s p q r z : Bool) → cond s p true ≡ true → q ≡ true → r ≡ true → z ≡ false → (l m : List Float) (u : Given) (t1 t2 t3 t4 : Answered)
-        → cond s (cond p (record { got = storing 1 (cond q (cond r (cond z t1 t2) t3) t4); out = tens from l }) u) (quiet (cond q (cond r (cond z t1 t2) t3) t4) (tens from m))
+        → cond s (cond p (record { got = withStored 1 (cond q (cond r (cond z t1 t2) t3) t4); out = tens from l }) u) (quiet (cond q (cond r (cond z t1 t2) t3) t4) (tens from m))
         ≡ record { got = told-by s t2; out = tens from (cond s (cond p l m) m) }
     go true p q r z e f g h l m u t1 t2 t3 t4 = rw (e, f, g, h)
     go false p q r z e f g h l m u t1 t2 t3 t4 = rw (f, g, h)

@@ -13,7 +13,7 @@ use Rattle.run.specs.Samples.{Room, tens, numbersOf, isPlaced, hasRoom, put, pu
 use Rattle.run.proofs.Placing.{points-put, points-off}
 use Rattle.gauss_jackson.specs.declared.Answered.{Answered}
 use Rattle.gauss_jackson.specs.declared.Outcome.the-variants.{Refused}
-use Rattle.gauss_jackson.specs.Answers.{Given, quiet, ending, storing, sampling}
+use Rattle.gauss_jackson.specs.Answers.{Given, quiet, ending, withStored, sampling}
 
 module _ {A : Type 0} where
   pub pick-true : (p : Bool) (x y r : A) → p ≡ true → r ≡ x → r ≡ cond p x y
@@ -30,7 +30,7 @@ module _ (n : ℕ) (ss : List Sample) (b : Body) (from : ℕ) (l : List Float) (
   abbrev due : Bool → Given
   due d =
       cond d
-      (cond (isPlaced from n (length ss) (length l)) (record { got = storing (length ss) x; out = putAll n ss (tens from l) }) (quiet (ending (Refused SampleRoom)) (tens from l)))
+      (cond (isPlaced from n (length ss) (length l)) (record { got = withStored (length ss) x; out = putAll n ss (tens from l) }) (quiet (ending (Refused SampleRoom)) (tens from l)))
       (quiet x (tens from l))
 
   full-is : (d : Bool) → cond d (isPlaced from n (length ss) (length l)) true ≡ false → due d ≡ quiet (ending (Refused SampleRoom)) (tens from l)
@@ -39,7 +39,7 @@ module _ (n : ℕ) (ss : List Sample) (b : Body) (from : ℕ) (l : List Float) (
 
   stored-is : (d : Bool) (o : List Float) → cond d (isPlaced from n (length ss) (length l)) true ≡ true
       → (d ≡ true → isPlaced from n (length ss) (length l) ≡ true → tens from o ≡ putAll n ss (tens from l)) → (d ≡ false → o ≡ l)
-      → due d ≡ record { got = cond d (storing (length ss) x) x; out = tens from o }
+      → due d ≡ record { got = cond d (withStored (length ss) x) x; out = tens from o }
   stored-is true o e f g = rw (e, f refl e)
   stored-is false o e f g = rw (g refl)
 
@@ -57,12 +57,12 @@ module _ (n : ℕ) (ss : List Sample) (b : Body) (from : ℕ) (l : List Float) (
     -- room: they are stored
     stored : (r : Answered) (o : List Float) → q ≡ true
         → (wanted ≡ true → hasRoom n (length ss) (tens from l) ≡ true → tens from o ≡ putAll n ss (tens from l)) → (wanted ≡ false → o ≡ l)
-        → r ≡ cond w (storing (length ss) x) x
+        → r ≡ cond w (withStored (length ss) x) x
         → (r ≡ sampling n ss b (tens from l) x .got) × (o ≡ numbersOf (sampling n ss b (tens from l) x .out))
     unfolding hasPlace hasRoom numbersOf sampling
     stored r o e f g h =
         let z = stored-is wanted o (place-is true e) f g in
-        (h ∙ ap (λ (v : Bool). cond v (storing (length ss) x) x) says ∙ sym (ap (λ (t : Given). t .got) z), sym (ap (λ (t : Given). numbersOf (t .out)) z))
+        (h ∙ ap (λ (v : Bool). cond v (withStored (length ss) x) x) says ∙ sym (ap (λ (t : Given). t .got) z), sym (ap (λ (t : Given). numbersOf (t .out)) z))
 
 -- one sample
 one-put : (d : Bool) (from n : ℕ) (s : Sample) (l : List Float) → d ≡ true → hasRoom n 1 (tens from l) ≡ true
@@ -76,7 +76,7 @@ one-off d from n s l e = rw e
 
 pub stored-one : (n : ℕ) (s : Sample) (b : Body) (from : ℕ) (l : List Float) (x : Answered) (w q : Bool)
     → w ≡ wantsSamples (b .plan .settings) → q ≡ hasPlace w from n 1 (length l)
-    → (r : Answered) (o : List Float) → q ≡ true → o ≡ keptSample w from n s l → r ≡ cond w (storing 1 x) x
+    → (r : Answered) (o : List Float) → q ≡ true → o ≡ keptSample w from n s l → r ≡ cond w (withStored 1 x) x
     → (r ≡ sampling n (s ∷ []) b (tens from l) x .got) × (o ≡ numbersOf (sampling n (s ∷ []) b (tens from l) x .out))
 stored-one n s b from l x w q says placed r o e f h =
     stored n (s ∷ []) b from l x w q says placed r o e
@@ -85,7 +85,7 @@ stored-one n s b from l x w q says placed r o e f h =
 -- the startup's five
 pub stored-points : (b : Body) (from : ℕ) (l : List Float) (x : Answered) (w q : Bool)
     → w ≡ wantsSamples (b .plan .settings) → q ≡ hasPlace w from 0 5 (length l)
-    → (r : Answered) (o : List Float) → q ≡ true → o ≡ keptPoints w from (b .plan) (b .places) (b .a) l → r ≡ cond w (storing 5 x) x
+    → (r : Answered) (o : List Float) → q ≡ true → o ≡ keptPoints w from (b .plan) (b .places) (b .a) l → r ≡ cond w (withStored 5 x) x
     → (r ≡ sampling 0 (startSamples (b .plan) (b .places) (b .a)) b (tens from l) x .got)
     × (o ≡ numbersOf (sampling 0 (startSamples (b .plan) (b .places) (b .a)) b (tens from l) x .out))
 unfolding startSamples

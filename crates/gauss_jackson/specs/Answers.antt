@@ -96,14 +96,14 @@ abbrev pub quiet : Answered → Room → Given
 quiet x out = record { got = x; out = out }
 
 -- W-207: beside the outcome a call tells how many samples it stored
-unfoldable pub storing : ℕ → Answered → Answered
-storing m x = record { run = x .run; outcome = x .outcome; stored = m }
+unfoldable pub withStored : ℕ → Answered → Answered
+withStored m x = record { run = x .run; outcome = x .outcome; stored = m }
 
 -- samples from number n on are due, if wanted, and then x follows: all or none, refusal 6 before all else
 unfoldable pub sampling : ℕ → List Sample → Body → Room → Answered → Given
 sampling n ss b out x =
     cond (wantsSamples (b .plan .settings))
-    (cond (hasRoom n (length ss) out) (record { got = storing (length ss) x; out = putAll n ss out }) (quiet (ending (Refused SampleRoom)) out))
+    (cond (hasRoom n (length ss) out) (record { got = withStored (length ss) x; out = putAll n ss out }) (quiet (ending (Refused SampleRoom)) out))
     (quiet x out)
 
 -- the startup is done

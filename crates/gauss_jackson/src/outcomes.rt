@@ -5,7 +5,7 @@ ghost use mathlib.Core.Bool.{cond};
 ghost use Prim.Native.Nat.{_<_};
 ghost use Rattle.run.specs.Limits.{ample};
 ghost use Rattle.run.specs.Moves.{freshBody};
-ghost use Rattle.gauss_jackson.specs.Answers.{nextCount, noPlan, endedRun, ending, storing, questionOf, asking, solutionOf};
+ghost use Rattle.gauss_jackson.specs.Answers.{nextCount, noPlan, endedRun, ending, withStored, questionOf, asking, solutionOf};
 use crate::Answered;
 use crate::Outcome;
 use crate::Question;
@@ -80,7 +80,7 @@ pub fn end(outcome: Outcome) -> Answered
 
 // The answer x, where samples are wanted after m of them were stored.
 pub fn tell_stored(wanted: bool, m: u64, x: Answered) -> Answered
-    ensures { λ y. ⌜ y ≡ cond wanted (storing m x) x ⌝ }
+    ensures { λ y. ⌜ y ≡ cond wanted (withStored m x) x ⌝ }
 {
     if wanted {
         let mut told = x;

@@ -22,16 +22,18 @@ use Rattle.plan.proofs.Verdicts.{by-tests as verdict-by-tests}
 use Rattle.gauss_jackson.specs.Answers.{started}
 use Rattle.run.specs.declared.Run.{Run}
 use Rattle.rules.specs.Rules.{integrate}
-use Rattle.rules.specs.Walk.{told, Call}
+use Rattle.rules.specs.Walk.{told, Call, begin}
 use Rattle.rules.specs.Follows.{played}
 use Rattle.whole.specs.Whole.{IsWhole}
 use Rattle.counting.specs.Paths.{Claims, Always}
 use Rattle.counting.specs.Counting.{stepsFor, whenFor, Bounds, OnTime, onTime}
-use Rattle.counting.specs.Runs.{Going, answersIn, Finishes, Roomy, roomFor}
+use Rattle.counting.specs.Runs.{Going, answersIn, Finishes}
+use Rattle.counting.specs.Rooms.{Roomy, roomFor}
 use Rattle.counting.proofs.Claims.{always-follows}
 use Rattle.counting.proofs.OnTime.{ends-on-time}
 use Rattle.counting.proofs.Lines.{Limits}
 use Rattle.counting.proofs.Runs.{line-begins, line-goes, line-ends, some-answers, finishes-on-time}
+use Rattle.counting.proofs.Rooms.{room-for-all}
 use Rattle.profile.specs.declared.Cost.{Cost}
 use Rattle.profile.specs.declared.Foreseen.{Foreseen}
 use Rattle.profile.specs.declared.Foreseen.the-variants.{Costs, Refused}
@@ -151,9 +153,10 @@ module _ (s : Settings) (t0 tf : Float) (r0 v0 : Triple) (b : Bounds s t0 tf (wh
         accepted = fine;
         asks = ap (λ (x : WholeStart). told (x .told .outcome)) same ∙ line-begins s t0 tf r0 v0 fine;
         room = refl;
-        goes = λ (cs : List Call) (r : Roomy (c .samples) cs).
+        enough = room-for-all b r0 v0;
+        goes = λ (cs : List Call) (r : Roomy (begin s t0 tf r0 v0 .line) cs).
             subst (λ (x : Run). Going claims (c .most) 0 0 0 cs (played x cs)) run (line-goes s t0 tf r0 v0 fine claims (c .most) (c .samples) limits all-kept cs r);
-        finishes = λ (cs : List Call) (r : Roomy (c .samples) cs).
+        finishes = λ (cs : List Call) (r : Roomy (begin s t0 tf r0 v0 .line) cs).
             subst (λ (x : Run). c .most ≤ answersIn 0 cs (played x cs) → Finishes (played x cs)) run
             (line-ends s t0 tf r0 v0 fine claims (c .most) (c .samples) limits all-kept some cs r);
         on-time = finishes-on-time b r0 v0;

@@ -7,7 +7,7 @@ use Rattle.plan.specs.Limits.{areWithinLimits, wantsSamples}
 use Rattle.plan.specs.Plan.{defaultSettings, directionOf, planOf, isTooNear}
 use Rattle.plan.specs.Lawful.{isDated}
 use Rattle.counting.specs.Counting.{spanOf, stepsFor, tailFor, plainFor, tailAnswersFor, leastFor, mostFor, fewestFor, leastBefore, mostBefore}
-use Rattle.counting.specs.Runs.{roomFor}
+use Rattle.counting.specs.Rooms.{roomFor}
 use Rattle.profile.specs.Wholes.{wholeOf, hasNoFraction, isWholeTime, isWholeStep, areWhole}
 use Rattle.profile.specs.Costs.{spanIn, stepIn, costFor, forecastOf}
 use Rattle.profile.specs.Rows.{toldOf, dueOf, Rows}

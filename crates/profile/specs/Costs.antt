@@ -12,7 +12,7 @@ use Rattle.plan.specs.Limits.{areWithinLimits}
 use Rattle.plan.specs.Plan.{planOf, isTooNear}
 use Rattle.plan.specs.Lawful.{isDated}
 use Rattle.counting.specs.Counting.{spanOf, stepsFor, leastBefore, mostBefore}
-use Rattle.counting.specs.Runs.{roomFor}
+use Rattle.counting.specs.Rooms.{roomFor}
 use Rattle.profile.specs.declared.Cost.{Cost}
 use Rattle.profile.specs.declared.Foreseen.{Foreseen}
 use Rattle.profile.specs.declared.Foreseen.the-variants.{Costs, Refused}

@@ -19,12 +19,13 @@ use Rattle.plan.specs.Plan.{planOf, isTooNear}
 use Rattle.plan.specs.Lawful.{isLawful}
 use Rattle.plan.specs.Verdict.{faultOf, verdictOn}
 use Rattle.gauss_jackson.specs.Answers.{started}
-use Rattle.rules.specs.Walk.{question, told, Call}
+use Rattle.rules.specs.Walk.{question, told, Call, begin}
 use Rattle.rules.specs.Follows.{played}
 use Rattle.whole.specs.Whole.{IsWhole}
 use Rattle.counting.specs.Paths.{Claims}
 use Rattle.counting.specs.Counting.{stepsFor, whenFor, Bounds}
-use Rattle.counting.specs.Runs.{Going, answersIn, Finishes, Roomy, FinishesOnTime}
+use Rattle.counting.specs.Runs.{Going, answersIn, Finishes, FinishesOnTime}
+use Rattle.counting.specs.Rooms.{Roomy, Ample}
 use Rattle.profile.specs.declared.Cost.{Cost}
 use Rattle.profile.specs.declared.Foreseen.{Foreseen}
 use Rattle.profile.specs.declared.Foreseen.the-variants.{Costs, Refused}
@@ -56,17 +57,17 @@ pub record KeepsItsWord (s : Settings) (t0 tf : Float) (r0 v0 : Triple) (c : Cos
   pub plainly : startedWhole s t0 tf r0 v0 ≡ withCost (started s t0 tf r0 v0) c
   pub accepted : verdictOn (planOf s t0 tf) ≡ Fine
   pub asks : told (startedWhole s t0 tf r0 v0 .told .outcome) ≡ question 0 (record { t = t0; r = r0; v = v0 })
-  -- the room in numbers is that in samples
+  -- the room in numbers is that in samples, and with room for so many from sample 0 on every call has room for the samples due at it
   pub room : c .numbers ≡ sampleWidth * c .samples
-  -- every list of calls with the room told, refused ones among them: nothing but questions, 8 to a wrong number, the finished state as told, and 7
-  -- after it
-  pub goes : (cs : List Call) → Roomy (c .samples) cs
+  pub enough : (cs : List Call) → Ample (c .samples) cs → Roomy (begin s t0 tf r0 v0 .line) cs
+  -- every list of calls with room, refused ones among them: nothing but questions, 8 to a wrong number, the finished state as told, and 7 after it
+  pub goes : (cs : List Call) → Roomy (begin s t0 tf r0 v0 .line) cs
       → Going (asTold c (wholeOf t0) (wholeOf tf) (stepIn s)) (c .most) 0 0 0 cs (played (startedWhole s t0 tf r0 v0 .run) cs)
   -- whoever answers every question comes to the end, with `most` answers at the latest
-  pub finishes : (cs : List Call) → Roomy (c .samples) cs → c .most ≤ answersIn 0 cs (played (startedWhole s t0 tf r0 v0 .run) cs)
+  pub finishes : (cs : List Call) → Roomy (begin s t0 tf r0 v0 .line) cs → c .most ≤ answersIn 0 cs (played (startedWhole s t0 tf r0 v0 .run) cs)
       → Finishes (played (startedWhole s t0 tf r0 v0 .run) cs)
   -- and so all of demand 3, by the startup passes made too, since the values are within its bounds
-  pub on-time : (cs : List Call) → Roomy (c .samples) cs → FinishesOnTime s t0 tf (wholeOf t0) (wholeOf tf) (wholeOf (s .h)) r0 v0 cs
+  pub on-time : (cs : List Call) → Roomy (begin s t0 tf r0 v0 .line) cs → FinishesOnTime s t0 tf (wholeOf t0) (wholeOf tf) (wholeOf (s .h)) r0 v0 cs
   pub bounds : Bounds s t0 tf (wholeOf t0) (wholeOf tf) (wholeOf (s .h))
 
 -- for all f64

@@ -28,11 +28,11 @@ use Rattle.run.specs.declared.waiting.Waiting.the-variants.{Epoch, Forward, Bac
 use Rattle.conditions.specs.Conditions.{isDue, isTail, isAtRest}
 use Rattle.run.specs.Waiting.{waitsAt, isLast, stageAfter, nextPoint}
 use Rattle.run.specs.Moves.{surveyed, kept, endOf, movedOn, movedBack, passBegun, renewed, passMade, launched, predicted, tried, committed, endOfTail}
-use Rattle.run.specs.Samples.{hasRoom}
+use Rattle.run.specs.Samples.{Room, hasRoom}
 use Rattle.run.specs.Sound.{isSound}
 use Rattle.gauss_jackson.specs.declared.Answered.{Answered}
 use Rattle.gauss_jackson.specs.declared.Outcome.{Outcome}
-use Rattle.gauss_jackson.specs.Answers.{noPlan, endedRun, ending, asking, onward, Given, sampling, startupEnded, stepEnded, passesOn, passEnded, rk4Taken, forwardEnded, backwardEnded, tailEnded, surveyTaken, passTaken, stepTaken, lastTaken, answeredAt, refusing, answered, startedBy, started, nextCount}
+use Rattle.gauss_jackson.specs.Answers.{noPlan, endedRun, ending, asking, onward, Given, withStored, sampling, startupEnded, stepEnded, passesOn, passEnded, rk4Taken, forwardEnded, backwardEnded, tailEnded, surveyTaken, passTaken, stepTaken, lastTaken, answeredAt, refusing, answered, startedBy, started, nextCount}
 use Rattle.resumed.proofs.Good.{FitPlan, Good, surveyed-good, kept-good, on-good, back-good, begun-good, renewed-good, made-good, launched-good, predicted-good, tried-good, committed-good, fresh-good}
 use Rattle.resumed.proofs.Fitting.{F, Fit, nought-fits, zeros-fit, end-fit, corrected-fit}
 
@@ -68,23 +68,23 @@ onward-good c b g =
     (either (ltb (b .track .steps) (b .plan .settings .«max_steps»)) _ _ (either (isTail (b .plan) (b .track .t)) _ _ (asking-good (Tail First) c b g) (asking-good (Step 0) c (predicted b) (predicted-good b g))) (ended-good _))
     (ended-good _)
 
-sampling-good : (n : ℕ) (ss : List Sample) (b : Body) (out : List Float) (x : Answered) → GoodA x → GoodT (sampling n ss b out x)
-unfolding sampling
+sampling-good : (n : ℕ) (ss : List Sample) (b : Body) (out : Room) (x : Answered) → GoodA x → GoodT (sampling n ss b out x)
+unfolding sampling withStored
 sampling-good n ss b out x g = eitherT (wantsSamples (b .plan .settings)) _ _ (eitherT (hasRoom n (length ss) out) _ _ (record { got = g }) (record { got = ended-good _ })) (record { got = g })
 
-startup-ended-good : (c : Count) (b : Body) (out : List Float) → Good b → GoodT (startupEnded c b out)
+startup-ended-good : (c : Count) (b : Body) (out : Room) → Good b → GoodT (startupEnded c b out)
 unfolding startupEnded
 startup-ended-good c b out g = sampling-good _ _ _ _ _ (onward-good c (launched b) (launched-good b g))
 
-step-ended-good : (c : Count) (b : Body) (out : List Float) → Good b → GoodT (stepEnded c b out)
+step-ended-good : (c : Count) (b : Body) (out : Room) → Good b → GoodT (stepEnded c b out)
 unfolding stepEnded
 step-ended-good c b out g = sampling-good _ _ _ _ _ (onward-good c b g)
 
-passes-on-good : (c : Count) (b : Body) (out : List Float) → Good b → GoodT (passesOn c b out)
+passes-on-good : (c : Count) (b : Body) (out : Room) → Good b → GoodT (passesOn c b out)
 unfolding passesOn
 passes-on-good c b out g = eitherT (ltb (b .«startup_iters») (b .plan .settings .«max_startup_iters»)) _ _ (record { got = asking-good (Pass 0) c (passBegun b) (begun-good b g) }) (startup-ended-good c b out g)
 
-pass-ended-good : (c : Count) (b : Body) (out : List Float) → Good b → GoodT (passEnded c b out)
+pass-ended-good : (c : Count) (b : Body) (out : Room) → Good b → GoodT (passEnded c b out)
 unfolding passEnded
 pass-ended-good c b out g = eitherT (isSettled (b .plan .settings .«startup_tol») (b .widest)) _ _ (startup-ended-good c (passMade b) out (made-good b g)) (passes-on-good c (passMade b) out (made-good b g))
 
@@ -102,7 +102,7 @@ unfolding backwardEnded
 backward-good i c b x g =
     either (ltb 1 i) _ _ (asking-good (Backward (i - 1) First) c (movedBack i b x) (back-good b g i x)) (asking-good (Survey 0) c (movedBack i b x) (back-good b g i x))
 
-step-good : (n : ℕ) (c : Count) (b : Body) (x : Triple) (out : List Float) → Good b → Fit x → GoodT (stepTaken n c b x out)
+step-good : (n : ℕ) (c : Count) (b : Body) (x : Triple) (out : Room) → Good b → Fit x → GoodT (stepTaken n c b x out)
 unfolding stepTaken
 step-good n c b x out g h =
     let y = correctedState (b .plan .h) (b .track .sums) (b .trial .fixed) x in
@@ -115,7 +115,7 @@ unfolding tailEnded
 tail-good c b x g =
     either (wantsSamples (b .plan .settings)) _ _ (asking-good TailSample c (tried b (endOfTail b x)) (tried-good b g (endOfTail b x) (unfold endOfTail endOf in end-fit _ _ _ _ _ _))) (ended-good _)
 
-answered-at-good : (w : Waiting) (c : Count) (b : Body) (x : Triple) (out : List Float) → Good b → Fit x → GoodT (answeredAt w c b x out)
+answered-at-good : (w : Waiting) (c : Count) (b : Body) (x : Triple) (out : Room) → Good b → Fit x → GoodT (answeredAt w c b x out)
 unfolding answeredAt surveyTaken passTaken lastTaken
 answered-at-good Epoch c b x out g h = record { got = asking-good (Forward 4 First) c (surveyed 4 b x) (surveyed-good b g 4 x h) }
 answered-at-good (Forward i s) c b x out g h = record { got = rk4-good (λ (t : Stage). Forward i t) s c b x _ g h (forward-good i c b x g) }
@@ -130,7 +130,7 @@ answered-at-good TailSample c b x out g h = sampling-good _ _ _ _ _ (ended-good 
 answered-at-good Ended c b x out g h = record { got = ended-good _ }
 answered-at-good Unknown c b x out g h = record { got = ended-good _ }
 
-pub answered-good : (run : Run) (n : ℕ) (x : Triple) (out : List Float) → GoodRun run → Fit x → GoodT (answered run n x out)
+pub answered-good : (run : Run) (n : ℕ) (x : Triple) (out : Room) → GoodRun run → Fit x → GoodT (answered run n x out)
 unfolding answered refusing
 answered-good run n x out g h =
     eitherT (isSound run) _ _ (eitherT (eqb (run .mark .count .number) n) _ _ (answered-at-good (waitsAt (run .mark)) (nextCount (run .mark .count)) (run .body) x out g h) (record { got = record { body = g } })) (record { got = record { body = g } })

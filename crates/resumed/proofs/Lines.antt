@@ -14,7 +14,8 @@ use Rattle.run.specs.Sound.{isSound}
 use Rattle.gauss_jackson.specs.declared.Answered.{Answered}
 use Rattle.gauss_jackson.specs.Answers.{answered, started, refusing}
 use Rattle.rules.specs.Rules.{Course}
-use Rattle.rules.specs.Walk.{Said, refused, told, Call, Result, Stop, Line, open-at, over}
+use Rattle.run.specs.Samples.{Room}
+use Rattle.rules.specs.Walk.{Said, refused, told, Call, Result, Stop, Line, open-at, over, noRoom}
 use Rattle.rules.specs.Follows.{heard}
 use Rattle.rules.proofs.Rest.{next, restAt, rest, opened, lineOf, seen}
 use Rattle.rules.proofs.Calls.{call-is}
@@ -109,9 +110,9 @@ stands : (run : Run) (l : Line) → isSound run ≡ true → backTo (lineOf run)
 unfolding backTo
 stands run l t = rw (open-line run t)
 
-silent : (run : Run) (l : Line) → isSound run ≡ true → backTo (lineOf run) l .out ≡ []
+silent : (run : Run) (l : Line) → isSound run ≡ true → (backTo (lineOf run) l .stored ≡ 0) × (backTo (lineOf run) l .out ≡ noRoom)
 unfolding backTo
-silent run l t = rw (open-line run t)
+silent run l t = rw (open-line run t) (refl, refl)
 
 -- ---- from any run at all, with any forms
 abbrev Follows : List Event → Type 0
@@ -122,7 +123,7 @@ unfolding played followed seen
 by-call c es d on run forms places g h =
     ap (λ (l : List Result). heard (answered run (c .number) (c .a) (c .out)) ∷ l)
     (on (answered run (c .number) (c .a) (c .out) .got .run) forms places (answered-good run (c .number) (c .a) (c .out) g d .got .body) h)
-    ∙ ap (λ (s : Stop). record { said = s .said; out = s .out } ∷ followed (s .line) places es) (call-is run c)
+    ∙ ap (λ (s : Stop). record { said = s .said; stored = s .stored; out = s .out } ∷ followed (s .line) places es) (call-is run c)
 
 by-putting : (es : List Event) → Follows es → Follows (put-away ∷ es)
 unfolding played followed kept
@@ -146,13 +147,13 @@ abbrev loading : Answered → List (List ℕ) → List Event → List Result
 loading x forms es = loadHeard x ∷ played (x .run) forms es
 
 abbrev standingAt : Stop → List Line → List Event → List Result
-standingAt x places es = record { said = x .said; out = x .out } ∷ followed (x .line) places es
+standingAt x places es = record { said = x .said; stored = x .stored; out = x .out } ∷ followed (x .line) places es
 
 -- where there is no such form: 10, and the run goes on as it was
 by-missing : (es : List Event) → Follows es → (run : Run) (forms : List (List ℕ)) (places : List Line) → GoodRun run → Kept forms places
     → loading (refusing run StoredShape) forms es ≡ standingAt (backTo over (lineOf run)) places es
 unfolding refusing told backTo
-by-missing es on run forms places g h = ap (λ (l : List Result). record { said = refused (numberOf StoredShape); out = [] } ∷ l) (on run forms places g h)
+by-missing es on run forms places g h = ap (λ (l : List Result). record { said = refused (numberOf StoredShape); stored = 0; out = noRoom } ∷ l) (on run forms places g h)
 
 -- where there is one: its question again, and on from its place
 by-form : (es : List Event) → Follows es → (run : Run) (l : Line) (forms : List (List ℕ)) (places : List Line) → isSound run ≡ true → GoodRun run → Kept forms places
@@ -161,8 +162,8 @@ unfolding takenUp
 by-form es on run l forms places t g h =
     let x = backTo (lineOf run) l in
     let line : lineOf (cleaned run) ≡ x .line = line-same run t g ∙ sym (stands run l t) in
-    ap₂ (λ (s : Said) (rs : List Result). record { said = s; out = [] } ∷ rs) (again run l t g) (on (cleaned run) forms places (clean-good run g) h ∙ ap (λ (y : Line). followed y places es) line)
-    ∙ ap (λ (o : List Float). record { said = x .said; out = o } ∷ followed (x .line) places es) (sym (silent run l t))
+    ap₂ (λ (s : Said) (rs : List Result). record { said = s; stored = 0; out = noRoom } ∷ rs) (again run l t g) (on (cleaned run) forms places (clean-good run g) h ∙ ap (λ (y : Line). followed y places es) line)
+    ∙ ap₂ (λ (m : ℕ) (o : Room). record { said = x .said; stored = m; out = o } ∷ followed (x .line) places es) (sym (silent run l t .0)) (sym (silent run l t .1))
 
 by-taking : (k : ℕ) (es : List Event) → Follows es → Follows (take-up k ∷ es)
 unfolding played followed

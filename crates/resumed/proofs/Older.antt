@@ -15,7 +15,7 @@ use Rattle.resumed.proofs.Lines.{follows-with-forms}
 walk-on : (l : Line) (cs ds : List Call) → walk l (cs ++ ds) ≡ walk l cs ++ walk (lineAfter l cs) ds
 unfolding walk lineAfter
 walk-on l [] ds = refl
-walk-on l (c ∷ cs) ds = ap (λ (rs : List Result). record { said = called l c .said; out = called l c .out } ∷ rs) (walk-on (called l c .line) cs ds)
+walk-on l (c ∷ cs) ds = ap (λ (rs : List Result). record { said = called l c .said; stored = called l c .stored; out = called l c .out } ∷ rs) (walk-on (called l c .line) cs ds)
 
 after-on : (l : Line) (cs : List Call) (c : Call) → lineAfter l (cs ++ (c ∷ [])) ≡ called (lineAfter l cs) c .line
 unfolding lineAfter
@@ -26,7 +26,7 @@ after-on l (d ∷ cs) c = after-on (called l d .line) cs c
 calls-walk : (l : Line) (places : List Line) (cs : List Call) → followed l places (map call cs) ≡ walk l cs
 unfolding followed walk
 calls-walk l places [] = refl
-calls-walk l places (c ∷ cs) = ap (λ (rs : List Result). record { said = called l c .said; out = called l c .out } ∷ rs) (calls-walk (called l c .line) places cs)
+calls-walk l places (c ∷ cs) = ap (λ (rs : List Result). record { said = called l c .said; stored = called l c .stored; out = called l c .out } ∷ rs) (calls-walk (called l c .line) places cs)
 
 -- ---- the places that are kept are those of the calls that counted
 -- at each kept place a question is open
@@ -62,7 +62,7 @@ drops : (l : Line) (es : List Event) (cs : List Call) (done : List Call) (ps : L
 unfolding followed countingCalls
 drops l [] cs done ps ds h = calls-walk (lineAfter l done) ps cs
 drops l (call c ∷ es) cs done ps ds h =
-    ap (λ (rs : List Result). record { said = called (lineAfter l done) c .said; out = called (lineAfter l done) c .out } ∷ rs)
+    ap (λ (rs : List Result). record { said = called (lineAfter l done) c .said; stored = called (lineAfter l done) c .stored; out = called (lineAfter l done) c .out } ∷ rs)
     (ap (λ (x : Line). followed x ps (es ++ map call cs)) (sym (after-on l done c))
     ∙ drops l es cs (done ++ (c ∷ [])) ps ds h
     ∙ ap (λ (x : Line). followed x ps es ++ walk (lineAfter l (countingCalls l (done ++ (c ∷ [])) ds es)) cs) (after-on l done c))
@@ -74,7 +74,7 @@ drops l (put-away ∷ es) cs done ps ds h = put (lineAfter l done) refl (drops l
     put (open-at n e q k) z on = unfold kept isOpen in on (ps ++ (open-at n e q k ∷ [])) (ds ++ (done ∷ [])) (reached-on l ps ds (open-at n e q k) done h z refl)
     put over z on = unfold kept isOpen in on ps ds h
 drops l (take-up k ∷ es) cs done ps ds h =
-    ap (λ (rs : List Result). record { said = backTo (getD ps k over) (lineAfter l done) .said; out = backTo (getD ps k over) (lineAfter l done) .out } ∷ rs)
+    ap (λ (rs : List Result). record { said = backTo (getD ps k over) (lineAfter l done) .said; stored = backTo (getD ps k over) (lineAfter l done) .stored; out = backTo (getD ps k over) (lineAfter l done) .out } ∷ rs)
     (ap (λ (x : Line). followed x ps (es ++ map call cs)) (back-is l ps ds done k h)
     ∙ drops l es cs (getD ds k done) ps ds h
     ∙ ap (λ (x : Line). followed x ps es ++ walk (lineAfter l (countingCalls l (getD ds k done) ds es)) cs) (sym (back-is l ps ds done k h)))

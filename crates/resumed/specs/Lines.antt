@@ -15,7 +15,7 @@ use Rattle.plan.specs.declared.Settings.{Settings}
 use Rattle.run.specs.declared.Run.{Run}
 use Rattle.gauss_jackson.specs.declared.Answered.{Answered}
 use Rattle.gauss_jackson.specs.Answers.{answered, started}
-use Rattle.rules.specs.Walk.{question, refused, told, Call, Result, Line, open-at, over, Stop, called, begin}
+use Rattle.rules.specs.Walk.{question, refused, told, Call, Result, Line, open-at, over, Stop, noRoom, called, begin}
 use Rattle.rules.specs.Follows.{heard}
 use Rattle.stored.specs.Stored.{storing, storedIn, loaded}
 use Rattle.triple.specs.Doubles.{Doubles}
@@ -42,7 +42,7 @@ added run forms = addedBy (storing run blank) (storedIn run blank) forms
 
 -- what the caller has of a loading
 abbrev pub loadHeard : Answered → Result
-loadHeard x = record { said = told (x .outcome); out = [] }
+loadHeard x = record { said = told (x .outcome); stored = x .stored; out = noRoom }
 
 -- what the calls and the loadings have to tell
 unfoldable pub played : Run → (forms : List (List ℕ)) → List Event → List Result
@@ -60,15 +60,15 @@ kept over ls = ls
 
 -- back to the place that was kept: its question is told again, and the count of answers is what it was there
 unfoldable pub backTo : (kept line : Line) → Stop
-backTo (open-at n e q k) line = record { said = question n q; out = []; line = open-at n e q k }
-backTo over line = record { said = refused (numberOf StoredShape); out = []; line = line }
+backTo (open-at n e q k) line = record { said = question n q; stored = 0; out = noRoom; line = open-at n e q k }
+backTo over line = record { said = refused (numberOf StoredShape); stored = 0; out = noRoom; line = line }
 
 unfoldable pub followed : Line → (places : List Line) → List Event → List Result
 followed l places [] = []
-followed l places (call c ∷ es) = record { said = called l c .said; out = called l c .out } ∷ followed (called l c .line) places es
+followed l places (call c ∷ es) = record { said = called l c .said; stored = called l c .stored; out = called l c .out } ∷ followed (called l c .line) places es
 followed l places (put-away ∷ es) = followed l (kept l places) es
 followed l places (take-up k ∷ es) =
-    let x = backTo (getD places k over) l in record { said = x .said; out = x .out } ∷ followed (x .line) places es
+    let x = backTo (getD places k over) l in record { said = x .said; stored = x .stored; out = x .out } ∷ followed (x .line) places es
 
 -- ---- the statement
 -- the accelerations of the calls are f64
@@ -78,7 +78,7 @@ CallsDoubles (call c ∷ es) = Doubles (c .a) × CallsDoubles es
 CallsDoubles (put-away ∷ es) = CallsDoubles es
 CallsDoubles (take-up k ∷ es) = CallsDoubles es
 
--- for every start and every list of events: what is told, and left in the buffers, is what the rules give
+-- for every start and every list of events: what is told, and left in the rooms, is what the rules give
 abbrev pub FollowsWithForms : Type 0
 FollowsWithForms =
     (s : Settings) (t0 tf : Float) (r0 v0 : Triple) (es : List Event) → Outside s t0 tf r0 v0 → CallsDoubles es

@@ -3,7 +3,7 @@
 use mathlib.Core.Path.{_≡_}
 use mathlib.Core.Bool.{Bool, true, false, cond}
 use mathlib.Core.List.{List, [], _∷_, _++_, map}
-use lib.IntN.{ℤ, natAbs}
+use lib.IntN.{ℤ}
 use lib.ListN.{getD}
 use lib.Ieee.{Float}
 use Rattle.triple.specs.declared.Triple.{Triple}
@@ -11,8 +11,9 @@ use Rattle.plan.specs.declared.Settings.{Settings}
 use Rattle.gauss_jackson.specs.Answers.{started}
 use Rattle.rules.specs.Walk.{Call, Result, Line, open-at, over, called, walk, begin}
 use Rattle.rules.specs.Follows as plain
-use Rattle.counting.specs.Counting.{spanOf, Bounds}
-use Rattle.counting.specs.Runs.{Roomy, roomFor, FinishesOnTime}
+use Rattle.counting.specs.Counting.{Bounds}
+use Rattle.counting.specs.Runs.{FinishesOnTime}
+use Rattle.counting.specs.Rooms.{Roomy}
 use Rattle.resumed.specs.Outside.{Outside}
 use Rattle.resumed.specs.Lines.{Event, call, put-away, take-up, CallsDoubles, played}
 
@@ -59,5 +60,5 @@ abbrev pub DemandThreeWithForms : Type 0
 DemandThreeWithForms =
     (s : Settings) (t0 tf : Float) (z0 zf hz : ℤ) (r0 v0 : Triple) (es : List Event) (cs : List Call)
     → Bounds s t0 tf z0 zf hz → Outside s t0 tf r0 v0 → CallsDoubles (es ++ map call cs)
-    → Roomy (roomFor s (spanOf z0 zf) (natAbs hz)) (countAfter s t0 tf r0 v0 es ++ cs)
+    → Roomy (begin s t0 tf r0 v0 .line) (countAfter s t0 tf r0 v0 es ++ cs)
     → FinishesWithForms s t0 tf z0 zf hz r0 v0 es cs

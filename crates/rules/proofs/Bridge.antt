@@ -34,7 +34,7 @@ use Rattle.run.proofs.Moving.{Swept, pass-first, startup-done, step-first, tail
 use Rattle.gauss_jackson.specs.declared.Answered.{Answered}
 use Rattle.gauss_jackson.specs.declared.Outcome.{Outcome}
 use Rattle.gauss_jackson.specs.declared.Outcome.the-variants.{Refused}
-use Rattle.gauss_jackson.specs.Answers.{quiet, storing, nextCount, noPlan, endedRun, ending, questionOf, asking, solutionOf, onward, sampling, startupEnded, stepEnded, passesOn, passEnded}
+use Rattle.gauss_jackson.specs.Answers.{quiet, withStored, nextCount, noPlan, endedRun, ending, questionOf, asking, solutionOf, onward, sampling, startupEnded, stepEnded, passesOn, passEnded}
 use Rattle.rules.specs.Rules.{Course, stores, ends, exceeds, others, sampled, fly}
 use Rattle.rules.specs.Walk.{refused, told, over, Stop, afterStoring, settle}
 use Rattle.rules.proofs.Rest.{sweeping, passed, renewing, loop, due, later, restAt, rest, opened, lineOf, seen}
@@ -60,8 +60,8 @@ unfolding seen ending lineOf
 ended-is o out = simp ended-run
 
 -- ---- samples are due, if wanted, and then x follows, which stores none
-stored-is : (m : ℕ) (x : Answered) (out : Room) → x .stored ≡ 0 → seen (record { got = storing m x; out = out }) ≡ afterStoring m (seen (quiet x out))
-unfolding seen storing afterStoring
+stored-is : (m : ℕ) (x : Answered) (out : Room) → x .stored ≡ 0 → seen (record { got = withStored m x; out = out }) ≡ afterStoring m (seen (quiet x out))
+unfolding seen withStored afterStoring
 stored-is m x out z = rw (z, add-zero m)
 
 pub sampling-is : (i : ℕ) (ss : List Sample) (b : Body) (out : Room) (x : Answered) (t : Course) (n e : ℕ)
@@ -72,13 +72,13 @@ unfolding sampling sampled settle told
 sampling-is i ss b out x t n e z f = wanted (wantsSamples (b .plan .settings))
   where
     room : (d : Bool)
-        → seen (cond d (record { got = storing (length ss) x; out = putAll i ss out }) (quiet (ending (Refused SampleRoom)) out))
+        → seen (cond d (record { got = withStored (length ss) x; out = putAll i ss out }) (quiet (ending (Refused SampleRoom)) out))
         ≡ cond d (afterStoring (length ss) (settle t n e (putAll i ss out))) (record { said = refused 6; stored = 0; out = out; line = over })
     room true = stored-is (length ss) x (putAll i ss out) z ∙ ap (λ (s : Stop). afterStoring (length ss) s) (f (putAll i ss out))
     room false = ended-is (Refused SampleRoom) out
 
     wanted : (d : Bool)
-        → seen (cond d (cond (hasRoom i (length ss) out) (record { got = storing (length ss) x; out = putAll i ss out }) (quiet (ending (Refused SampleRoom)) out)) (quiet x out))
+        → seen (cond d (cond (hasRoom i (length ss) out) (record { got = withStored (length ss) x; out = putAll i ss out }) (quiet (ending (Refused SampleRoom)) out)) (quiet x out))
         ≡ settle (cond d (stores i ss t) t) n e out
     wanted true = room (hasRoom i (length ss) out)
     wanted false = f out

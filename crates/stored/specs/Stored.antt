@@ -25,7 +25,7 @@ storedIn run out = cond (isSound run) (written (contentOfRun run) out) out
 
 -- ---- loading: the run with its open question; or the refusal, and the run that the caller holds stays as it was
 unfoldable pub takenUp : Run → Answered
-takenUp run = record { run = run; outcome = openQuestion run }
+takenUp run = record { run = run; outcome = openQuestion run; stored = 0 }
 
 unfoldable pub judged : (held : Run) → (content : List ℕ) → Answered
 judged held c = cond (isStoredRun c) (takenUp (runOf c)) (refusing held StoredContent)

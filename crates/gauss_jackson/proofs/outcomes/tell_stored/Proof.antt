@@ -1,10 +1,10 @@
--- `outcomes::tell_stored` is `storing`, where samples are wanted.
-use Rattle.gauss_jackson.specs.Answers.{storing}
+-- `outcomes::tell_stored` is `withStored`, where samples are wanted.
+use Rattle.gauss_jackson.specs.Answers.{withStored}
 use Rattle.gauss_jackson.proofs.outcomes.tell_stored.Statement.{statement}
 use Rattle.gauss_jackson.proofs.outcomes.tell_stored.Tie as tie
 
 returns : tie.Need-returns
-unfolding storing
+unfolding withStored
 returns c = rw (c .if1 .taken)
 
 returns-2 : tie.Need-returns-2

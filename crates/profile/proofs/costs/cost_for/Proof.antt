@@ -3,7 +3,7 @@ use mathlib.Core.Path.{refl}
 use native.Mathlib.Omega.{arith}
 use borrow.Author.Needs.{needs}
 use Rattle.counting.specs.Counting.{plainFor, tailAnswersFor, leastFor, mostFor, leastBefore, mostBefore}
-use Rattle.counting.specs.Runs.{roomFor}
+use Rattle.counting.specs.Rooms.{roomFor}
 use Rattle.profile.specs.Costs.{costFor}
 use Rattle.profile.proofs.Counts.{about-steps, corrected-small}
 use Rattle.profile.proofs.costs.cost_for.Statement.{statement}
