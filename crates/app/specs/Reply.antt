@@ -1,4 +1,5 @@
--- The outcome in plain numbers, for C: 01's number and values of each case. What a case has no use for is zero.
+-- The outcome in plain numbers, for C: 01's number and values of each case. What a case has no use for is zero. m is how many samples the call
+-- stored (W-207).
 use Prim.Native.Nat.{ℕ}
 use mathlib.Core.List.{List}
 use Rattle.triple.specs.Arithmetic.{nought, zeros}
@@ -31,28 +32,31 @@ use Rattle.app.specs.declared.WholeReplied.{WholeReplied}
 
 -- the number of the interface
 abbrev pub abiNumber : ℕ
-abiNumber = 2
+abiNumber = 3
 
 -- kind 0: the next question
-unfoldable pub asksFor : Question → Reply
-asksFor q = record { t = q .t; r = q .r; v = q .v; evals = 0; steps = 0; «startup_iters» = 0; kind = 0; refusal = 0; number = q .number }
+unfoldable pub asksFor : Question → ℕ → Reply
+asksFor q m = record { t = q .t; r = q .r; v = q .v; evals = 0; steps = 0; «startup_iters» = 0; stored = m; kind = 0; refusal = 0; number = q .number }
 
 -- kind 1: the finished state
-unfoldable pub finishedAt : Solution → Reply
-finishedAt s =
-    record { t = s .t; r = s .r; v = s .v; evals = s .evals; steps = s .steps; «startup_iters» = s .«startup_iters»; kind = 1; refusal = 0; number = 0 }
+unfoldable pub finishedAt : Solution → ℕ → Reply
+finishedAt s m =
+    record { t = s .t; r = s .r; v = s .v; evals = s .evals; steps = s .steps; «startup_iters» = s .«startup_iters»; stored = m; kind = 1; refusal = 0; number = 0 }
 
 -- kind 2: a refusal, by its number in 01's table
-unfoldable pub refusedBy : Refusal → Reply
-refusedBy e = record { t = nought; r = zeros; v = zeros; evals = 0; steps = 0; «startup_iters» = 0; kind = 2; refusal = numberOf e; number = 0 }
+unfoldable pub refusedBy : Refusal → ℕ → Reply
+refusedBy e m = record { t = nought; r = zeros; v = zeros; evals = 0; steps = 0; «startup_iters» = 0; stored = m; kind = 2; refusal = numberOf e; number = 0 }
 
-unfoldable pub replyOf : Outcome → Reply
-replyOf (Ask q) = asksFor q
-replyOf (Done s) = finishedAt s
-replyOf (Refused e) = refusedBy e
+unfoldable pub replyOf : Outcome → ℕ → Reply
+replyOf (Ask q) m = asksFor q m
+replyOf (Done s) m = finishedAt s m
+replyOf (Refused e) m = refusedBy e m
+
+abbrev pub answerReply : Answered → Reply
+answerReply d = replyOf (d .outcome) (d .stored)
 
 abbrev pub repliedOf : Answered → Replied
-repliedOf d = record { run = d .run; reply = replyOf (d .outcome) }
+repliedOf d = record { run = d .run; reply = answerReply d }
 
 -- ---- the whole-second profile: no refusal is 0, and with a refusal no cost is told
 unfoldable pub costReplyOf : Foreseen → CostReply
@@ -60,19 +64,19 @@ costReplyOf (Costs c) = record { cost = c; refusal = 0 }
 costReplyOf (NoCosts e) = record { cost = noCost; refusal = numberOf e }
 
 unfoldable pub wholeReplyOf : WholeTold → WholeReply
-wholeReplyOf d = record { reply = replyOf (d .outcome); cost = d .cost }
+wholeReplyOf d = record { reply = replyOf (d .outcome) 0; cost = d .cost }
 
 abbrev pub wholeRepliedOf : WholeStart → WholeReplied
 wholeRepliedOf d = record { run = d .run; told = wholeReplyOf (d .told) }
 
 -- ---- by parts, where an answer goes the fast path
 unfoldable pub triedReply : Look → Plan → Track → Trial → TriedReply
-triedReply l p k t = let d = askedAgain l p k t in record { mark = d .mark; trial = d .trial; reply = asksFor (d .question) }
+triedReply l p k t = let d = askedAgain l p k t in record { mark = d .mark; trial = d .trial; reply = asksFor (d .question) 0 }
 
 unfoldable pub steppedReply : Look → Plan → Track → (old : List Triple) → Triple → SteppedReply
 steppedReply l p k old a =
     let d = madeStep l p k old a in
-    record { mark = d .mark; a = d .a; track = d .track; trial = d .trial; reply = asksFor (d .question) }
+    record { mark = d .mark; a = d .a; track = d .track; trial = d .trial; reply = asksFor (d .question) (d .stored) }
 
 -- the run with what changed
 abbrev pub triedRun : Run → TriedReply → Run

@@ -23,6 +23,6 @@ pub fn loaded_by(held: Run, bytes: &[u8]) -> Replied
     let done = stored::load(held, bytes);
     let run = done.run;
     let outcome = done.outcome;
-    let reply = replies::reply_of(outcome);
+    let reply = replies::reply_of(outcome, done.stored);
     Replied { run, reply }
 }

@@ -12,18 +12,20 @@ ghost use mathlib.Core.Path.{_≡_};
 ghost use mathlib.Core.List.{[], _∷_};
 ghost use Rattle.plan.specs.Plan.{defaultSettings};
 ghost use Rattle.gauss_jackson.specs.Answers.{started, answered, openQuestion};
+ghost use Rattle.run.specs.Samples.{tens, numbersOf};
 ghost use Rattle.refusals.specs.Numbers.{numberTold};
 ghost use Rattle.stored.specs.Stored.{storing, storedIn, loaded};
 ghost use Rattle.dense.specs.Interpolation.{judged, interpolated, batched};
 ghost use Rattle.profile.specs.Costs.{forecastOf};
 ghost use Rattle.profile.specs.Start.{startedWhole};
-ghost use Rattle.app.specs.Reply.{abiNumber, replyOf, costReplyOf, wholeReplyOf};
+ghost use Rattle.app.specs.Reply.{abiNumber, replyOf, answerReply, costReplyOf, wholeReplyOf};
 
 mod keeping;
 mod lending;
 mod replies;
 
 // An outcome in plain numbers. `kind` is 0 for a question, 1 for the finished state, 2 for a refusal; what a kind has no use for is zero.
+// `stored` is how many samples the call stored, whatever its kind.
 #[repr(C)]
 pub struct Reply {
     pub t: f64,
@@ -32,6 +34,7 @@ pub struct Reply {
     pub evals: u64,
     pub steps: u64,
     pub startup_iters: u64,
+    pub stored: u64,
     pub kind: u32,
     pub refusal: u16,
     pub number: u16,
@@ -81,12 +84,12 @@ struct SteppedReply {
     reply: Reply,
 }
 
-const ABI_NUMBER: u32 = 2;
+const ABI_NUMBER: u32 = 3;
 
 // The number of this interface, which its name has too: it goes up when the run's size or a call's shape changes, so that a program that
 // was built against another one does not link.
 #[no_mangle]
-pub extern "C" fn gj_abi_2() -> u32
+pub extern "C" fn gj_abi_3() -> u32
     ensures { λ n. ⌜ n ≡ abiNumber ⌝ }
 {
     ABI_NUMBER
@@ -109,7 +112,7 @@ pub extern "C" fn gj_start(
     r0: Triple,
     v0: Triple,
 ) -> Reply
-    ensures { λ x. ⌜ (x ≡ replyOf (started settings t0 tf r0 v0 .outcome)) × (now (run .exit) ≡ started settings t0 tf r0 v0 .run) ⌝ }
+    ensures { λ x. ⌜ (x ≡ answerReply (started settings t0 tf r0 v0)) × (now (run .exit) ≡ started settings t0 tf r0 v0 .run) ⌝ }
 {
     let done = replies::started_by(settings, t0, tf, r0, v0);
     *run = done.run;
@@ -141,12 +144,19 @@ pub extern "C" fn gj_start_whole(
     done.told
 }
 
-// An answer: the lent run moves on, or stays as it is where the answer is refused by 7 or 8. `out` is the sample buffer.
+// An answer: the lent run moves on, or stays as it is where the answer is refused by 7 or 8. `out` is the room for samples, which begins
+// at sample `from`.
 #[no_mangle]
-pub extern "C" fn gj_answer(run: &mut Run, number: u16, a: Triple, out: &mut [f64]) -> Reply
-    ensures { λ x. ⌜ (x ≡ replyOf (answered (now (run .entry)) number a (now (out .entry)) .got .outcome))
-        × (now (run .exit) ≡ answered (now (run .entry)) number a (now (out .entry)) .got .run)
-        × (now (out .exit) ≡ answered (now (run .entry)) number a (now (out .entry)) .out) ⌝ }
+pub extern "C" fn gj_answer(
+    run: &mut Run,
+    number: u16,
+    a: Triple,
+    from: u64,
+    out: &mut [f64],
+) -> Reply
+    ensures { λ x. ⌜ (x ≡ answerReply (answered (now (run .entry)) number a (tens from (now (out .entry))) .got))
+        × (now (run .exit) ≡ answered (now (run .entry)) number a (tens from (now (out .entry))) .got .run)
+        × (now (out .exit) ≡ numbersOf (answered (now (run .entry)) number a (tens from (now (out .entry))) .out)) ⌝ }
 {
     let look = fastpath::look_at(
         run.mark,
@@ -156,21 +166,22 @@ pub extern "C" fn gj_answer(run: &mut Run, number: u16, a: Triple, out: &mut [f6
         run.body.startup_iters,
         number,
         a,
+        from,
         out.len(),
     );
     if look.again {
         return lending::try_again(run, look, out);
     }
     if look.on {
-        return lending::step_on(run, look, a, out);
+        return lending::step_on(run, look, a, from, out);
     }
-    lending::answer_plainly(run, number, a, out)
+    lending::answer_plainly(run, number, a, from, out)
 }
 
 // The question that the run waits for, once more; refusal 7 where there is none.
 #[no_mangle]
 pub extern "C" fn gj_open_question(run: &Run) -> Reply
-    ensures { λ x. ⌜ x ≡ replyOf (openQuestion (now (run .entry))) ⌝ }
+    ensures { λ x. ⌜ x ≡ replyOf (openQuestion (now (run .entry))) 0 ⌝ }
 {
     replies::open_in(*run)
 }
@@ -187,7 +198,7 @@ pub extern "C" fn gj_store(run: &Run, out: &mut [u8]) -> u32
 // A stored run taken up again: the lent run becomes it and the reply is its open question; refused (10, 11), the lent run stays as it is.
 #[no_mangle]
 pub extern "C" fn gj_load(run: &mut Run, bytes: &[u8]) -> Reply
-    ensures { λ x. ⌜ (x ≡ replyOf (loaded (now (run .entry)) (now (bytes .entry)) .outcome))
+    ensures { λ x. ⌜ (x ≡ answerReply (loaded (now (run .entry)) (now (bytes .entry))))
         × (now (run .exit) ≡ loaded (now (run .entry)) (now (bytes .entry)) .run) ⌝ }
 {
     let done = keeping::loaded_by(*run, bytes);

@@ -2,6 +2,7 @@
 // What a call gives, in plain numbers.
 ghost use mathlib.Core.Path.{_≡_};
 ghost use Rattle.gauss_jackson.specs.Answers.{started, answered, openQuestion};
+ghost use Rattle.run.specs.Samples.{tens, numbersOf};
 ghost use Rattle.profile.specs.Start.{startedWhole};
 ghost use Rattle.app.specs.Reply.{asksFor, finishedAt, refusedBy, replyOf, repliedOf, costReplyOf, wholeReplyOf, wholeRepliedOf};
 use crate::CostReply;
@@ -19,8 +20,8 @@ use refusals::Refusal;
 use run::Run;
 use triple::Triple;
 
-pub fn asks_for(question: Question) -> Reply
-    ensures { λ x. ⌜ x ≡ asksFor question ⌝ }
+pub fn asks_for(question: Question, stored: u64) -> Reply
+    ensures { λ x. ⌜ x ≡ asksFor question stored ⌝ }
 {
     let r = question.r;
     let v = question.v;
@@ -31,14 +32,15 @@ pub fn asks_for(question: Question) -> Reply
         evals: 0,
         steps: 0,
         startup_iters: 0,
+        stored,
         kind: 0,
         refusal: 0,
         number: question.number,
     }
 }
 
-fn finished_at(solution: Solution) -> Reply
-    ensures { λ x. ⌜ x ≡ finishedAt solution ⌝ }
+fn finished_at(solution: Solution, stored: u64) -> Reply
+    ensures { λ x. ⌜ x ≡ finishedAt solution stored ⌝ }
 {
     let r = solution.r;
     let v = solution.v;
@@ -49,14 +51,15 @@ fn finished_at(solution: Solution) -> Reply
         evals: solution.evals,
         steps: solution.steps,
         startup_iters: solution.startup_iters,
+        stored,
         kind: 1,
         refusal: 0,
         number: 0,
     }
 }
 
-fn refused_by(refusal: Refusal) -> Reply
-    ensures { λ x. ⌜ x ≡ refusedBy refusal ⌝ }
+fn refused_by(refusal: Refusal, stored: u64) -> Reply
+    ensures { λ x. ⌜ x ≡ refusedBy refusal stored ⌝ }
 {
     let number = refusals::number_of(refusal);
     let nothing = Triple::zero();
@@ -67,19 +70,20 @@ fn refused_by(refusal: Refusal) -> Reply
         evals: 0,
         steps: 0,
         startup_iters: 0,
+        stored,
         kind: 2,
         refusal: number as u16,
         number: 0,
     }
 }
 
-pub fn reply_of(outcome: Outcome) -> Reply
-    ensures { λ x. ⌜ x ≡ replyOf outcome ⌝ }
+pub fn reply_of(outcome: Outcome, stored: u64) -> Reply
+    ensures { λ x. ⌜ x ≡ replyOf outcome stored ⌝ }
 {
     match outcome {
-        Outcome::Ask(question) => asks_for(question),
-        Outcome::Done(solution) => finished_at(solution),
-        Outcome::Refused(refusal) => refused_by(refusal),
+        Outcome::Ask(question) => asks_for(question, stored),
+        Outcome::Done(solution) => finished_at(solution, stored),
+        Outcome::Refused(refusal) => refused_by(refusal, stored),
     }
 }
 
@@ -89,24 +93,24 @@ pub fn started_by(settings: Settings, t0: f64, tf: f64, r0: Triple, v0: Triple) 
     let done = gauss_jackson::start(settings, t0, tf, r0, v0);
     let run = done.run;
     let outcome = done.outcome;
-    let reply = reply_of(outcome);
+    let reply = reply_of(outcome, done.stored);
     Replied { run, reply }
 }
 
-pub fn answered_by(run: Run, number: u16, a: Triple, out: &mut [f64]) -> Replied
-    ensures { λ x. ⌜ (x ≡ repliedOf (answered run number a (now (out .entry)) .got)) × (now (out .exit) ≡ answered run number a (now (out .entry)) .out) ⌝ }
+pub fn answered_by(run: Run, number: u16, a: Triple, from: u64, out: &mut [f64]) -> Replied
+    ensures { λ x. ⌜ (x ≡ repliedOf (answered run number a (tens from (now (out .entry))) .got)) × (now (out .exit) ≡ numbersOf (answered run number a (tens from (now (out .entry))) .out)) ⌝ }
 {
-    let done = gauss_jackson::answer(run, number, a, out);
+    let done = gauss_jackson::answer(run, number, a, from, out);
     let outcome = done.outcome;
-    let reply = reply_of(outcome);
+    let reply = reply_of(outcome, done.stored);
     let next = done.run;
     Replied { run: next, reply }
 }
 
 pub fn open_in(run: Run) -> Reply
-    ensures { λ x. ⌜ x ≡ replyOf (openQuestion run) ⌝ }
+    ensures { λ x. ⌜ x ≡ replyOf (openQuestion run) 0 ⌝ }
 {
-    reply_of(gauss_jackson::open_question(run))
+    reply_of(gauss_jackson::open_question(run), 0)
 }
 
 pub fn cost_reply_of(forecast: Foreseen) -> CostReply
@@ -129,7 +133,7 @@ fn whole_reply_of(told: WholeTold) -> WholeReply
     ensures { λ x. ⌜ x ≡ wholeReplyOf told ⌝ }
 {
     let outcome = told.outcome;
-    let reply = reply_of(outcome);
+    let reply = reply_of(outcome, 0);
     let cost = told.cost;
     WholeReply { reply, cost }
 }

@@ -143,13 +143,16 @@ module _ (c : Claims) (E N : ℕ) (l : Limits c E N) where
       go : Asked j (e + 1) (x .after) s ⊎ Done (e + 1) (x .after) s → Goes i number e n out cs s
       go (inl a) =
           let u : e + 1 + 1 ≤ E = under c E N l (e + 1 + 1) (x .after) (a .1 zeros) (a .3 zeros) .0 in
-          subst (Goes i number e n out cs) (sym (a .2))
-          (added,
-          (same,
-          omega arith,
-          f j (e + 1) (n + s .stored) (a .0) (a .1)
-          (subst (λ (m : ℕ). (y : Triple) → Always c (e + 1 + 1) m (a .1 y)) (x .counts) (a .3))
-          (subst (λ (t : Stop). Roomy (t .line) cs) (a .2) r)))
+          subst (Goes i number e n out cs) (sym (a .2)) (
+            added,
+            (
+              same,
+              omega arith,
+              f j (e + 1) (n + s .stored) (a .0) (a .1)
+                  (subst (λ (m : ℕ). (y : Triple) → Always c (e + 1 + 1) m (a .1 y)) (x .counts) (a .3))
+                  (subst (λ (t : Stop). Roomy (t .line) cs) (a .2) r),
+            ),
+          )
       go (inr a) =
           subst (Goes i number e n out cs) (sym (a .4))
           (added, (same, refl, subst (λ (m : ℕ). c .finish (e + 1) m (a .0) (a .2) (a .3)) (x .counts) (a .5), over-is cs))

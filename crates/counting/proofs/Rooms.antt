@@ -80,9 +80,10 @@ module _ (c : Claims) where
   unfolding Holds Always due
   due-holds e n (asks q k) out h r = tt
   due-holds e n (stores j ss k) out h r =
-      let q = h .0 in
-      (room-within n (length ss + due k) j (length ss) out (omega arith) (omega arith) r,
-      due-holds e (n + length ss) k out (h .2) (room-within n (length ss + due k) (n + length ss) (due k) out (omega arith) (omega arith) r))
+      let q = h .0 in (
+        room-within n (length ss + due k) j (length ss) out (omega arith) (omega arith) r,
+        due-holds e (n + length ss) k out (h .2) (room-within n (length ss + due k) (n + length ss) (due k) out (omega arith) (omega arith) r),
+      )
   due-holds e n (ends t y steps startups) out h r = tt
   due-holds e n exceeds out h r = tt
 

@@ -8,6 +8,8 @@ use triple::Triple;
 ghost use mathlib.Core.Path.{_≡_};
 ghost use Rattle.gauss_jackson.specs.Answers.{started, answered};
 ghost use Rattle.profile.specs.Start.{startedWhole};
+ghost use Rattle.run.specs.Samples.{tens, numbersOf};
+ghost use Rattle.lent.specs.Told.{answerTold, answerGiven};
 
 // A start: the lent run becomes the started one, or an ended one where the start is refused.
 pub fn start_lent(
@@ -41,13 +43,38 @@ pub fn start_whole_lent(
     done.told
 }
 
-// An answer: the lent run moves on, or stays as it is where the answer is refused by 7 or 8.
-pub fn answer_lent(run: &mut Run, number: u16, a: Triple, out: &mut [f64]) -> Outcome
-    ensures { λ r. ⌜ (r ≡ answered (now (run .entry)) number a (now (out .entry)) .got .outcome)
-        × (now (run .exit) ≡ answered (now (run .entry)) number a (now (out .entry)) .got .run)
-        × (now (out .exit) ≡ answered (now (run .entry)) number a (now (out .entry)) .out) ⌝ }
+// What an answer tells: its outcome, and how many samples it stored.
+pub struct AnswerTold {
+    pub outcome: Outcome,
+    pub stored: u64,
+}
+
+// The run to go on with, and what is told.
+struct AnswerGiven {
+    run: Run,
+    told: AnswerTold,
+}
+
+fn answer_given(run: Run, number: u16, a: Triple, from: u64, out: &mut [f64]) -> AnswerGiven
+    ensures { λ x. ⌜ (x ≡ answerGiven (answered run number a (tens from (now (out .entry))) .got)) × (now (out .exit) ≡ numbersOf (answered run number a (tens from (now (out .entry))) .out)) ⌝ }
 {
-    let done = gauss_jackson::answer(*run, number, a, out);
+    let done = gauss_jackson::answer(run, number, a, from, out);
+    let next = done.run;
+    let outcome = done.outcome;
+    let told = AnswerTold {
+        outcome,
+        stored: done.stored,
+    };
+    AnswerGiven { run: next, told }
+}
+
+// An answer: the lent run moves on, or stays as it is where the answer is refused by 7 or 8. The room `out` begins at sample `from`.
+pub fn answer_lent(run: &mut Run, number: u16, a: Triple, from: u64, out: &mut [f64]) -> AnswerTold
+    ensures { λ r. ⌜ (r ≡ answerTold (answered (now (run .entry)) number a (tens from (now (out .entry))) .got))
+        × (now (run .exit) ≡ answered (now (run .entry)) number a (tens from (now (out .entry))) .got .run)
+        × (now (out .exit) ≡ numbersOf (answered (now (run .entry)) number a (tens from (now (out .entry))) .out)) ⌝ }
+{
+    let done = answer_given(*run, number, a, from, out);
     *run = done.run;
-    done.outcome
+    done.told
 }

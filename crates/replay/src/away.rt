@@ -44,7 +44,11 @@ fn put_away_and_take_up(run: Run) -> Answered {
         Told::Written => stored::load(run, &form),
         Told::Refused(e) => {
             let outcome = Outcome::Refused(e);
-            Answered { run, outcome, stored: 0 }
+            Answered {
+                run,
+                outcome,
+                stored: 0,
+            }
         }
     }
 }

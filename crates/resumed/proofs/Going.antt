@@ -70,7 +70,7 @@ onward-good c b g =
 
 sampling-good : (n : ℕ) (ss : List Sample) (b : Body) (out : Room) (x : Answered) → GoodA x → GoodT (sampling n ss b out x)
 unfolding sampling withStored
-sampling-good n ss b out x g = eitherT (wantsSamples (b .plan .settings)) _ _ (eitherT (hasRoom n (length ss) out) _ _ (record { got = g }) (record { got = ended-good _ })) (record { got = g })
+sampling-good n ss b out x g = eitherT (wantsSamples (b .plan .settings)) _ _ (eitherT (hasRoom n (length ss) out) _ _ (record { got = record { body = g .body } }) (record { got = ended-good _ })) (record { got = g })
 
 startup-ended-good : (c : Count) (b : Body) (out : Room) → Good b → GoodT (startupEnded c b out)
 unfolding startupEnded

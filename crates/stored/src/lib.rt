@@ -40,13 +40,25 @@ pub fn load(held: Run, bytes: &[u8]) -> Answered
             if judging::is_unused_zero(&words, run.mark) {
                 if sound::is_sound(run) {
                     let outcome = gauss_jackson::open_question(run);
-                    return Answered { run, outcome, stored: 0 };
+                    return Answered {
+                        run,
+                        outcome,
+                        stored: 0,
+                    };
                 }
             }
         }
         let outcome = Outcome::Refused(Refusal::StoredContent);
-        return Answered { run: held, outcome, stored: 0 };
+        return Answered {
+            run: held,
+            outcome,
+            stored: 0,
+        };
     }
     let outcome = Outcome::Refused(Refusal::StoredShape);
-    Answered { run: held, outcome, stored: 0 }
+    Answered {
+        run: held,
+        outcome,
+        stored: 0,
+    }
 }

@@ -45,10 +45,11 @@ use denote.Triple.Table.{entered, cited}
 use denote.Triple.Walked.{says, Stays, stay-none, gave-ref, gave-slice, walkOf, AllGo, goes-none, goes-gave-ref, goes-gave-slice, Walks, ends-at, walked, walk-meets}
 use denote.Exit.{yes}
 use Rattle.app.proofs.SameReply.{again-reply, on-reply}
-use Rattle.app.specs.Reply.{replyOf, steppedReply, steppedRun, triedReply, triedRun}
+use Rattle.app.specs.Reply.{answerReply, steppedReply, steppedRun, triedReply, triedRun}
 use Rattle.fastpath.specs.Looking.{lookedAt}
 use Rattle.fastpath.specs.Moving.{keptStep}
 use Rattle.gauss_jackson.specs.Answers.{answered}
+use Rattle.run.specs.Samples.{numbersOf, tens}
 use denote.Struct.Laws as LL
 use Rattle.fastpath.specs.declared.Look.{Look}
 use Rattle.app.specs.declared.Reply.{Reply}
@@ -153,18 +154,18 @@ abbrev τ-slice : Lifetime → Ty → Ty
 
 -- what is left once so many tests fail
 abbrev rest-2 : Code
-rest-2 = (seq (assign (place 19 []) (addrOf (place 1 (deref τ-Run ∷ []))))
-    (seq (assign (place 20 []) (addrOf (place 4 (field 0 ∷ deref (tyFloat binary64) ∷ []))))
-    (seq (assign (place 21 []) (aggregate (copy (place 20 []) ∷ copy (place 4 (field 1 ∷ [])) ∷ [])))
-    (seq (call #app·lending·answer-plainly (copy (place 19 []) ∷ copy (place 2 []) ∷ copy (place 3 []) ∷ copy (place 21 []) ∷ []) (place 0 []))
+rest-2 = (seq (assign (place 20 []) (addrOf (place 1 (deref τ-Run ∷ []))))
+    (seq (assign (place 21 []) (addrOf (place 5 (field 0 ∷ deref (tyFloat binary64) ∷ []))))
+    (seq (assign (place 22 []) (aggregate (copy (place 21 []) ∷ copy (place 5 (field 1 ∷ [])) ∷ [])))
+    (seq (call #app·lending·answer-plainly (copy (place 20 []) ∷ copy (place 2 []) ∷ copy (place 3 []) ∷ copy (place 4 []) ∷ copy (place 22 []) ∷ []) (place 0 []))
     return))))
 
 abbrev rest-1 : Code
-rest-1 = (seq (assign (place 12 []) (rvOpd (copy (place 5 (field 1 ∷ [])))))
-    (seq (cond (copy (place 12 [])) (seq (assign (place 16 []) (addrOf (place 1 (deref τ-Run ∷ []))))
-    (seq (assign (place 17 []) (addrOf (place 4 (field 0 ∷ deref (tyFloat binary64) ∷ []))))
-    (seq (assign (place 18 []) (aggregate (copy (place 17 []) ∷ copy (place 4 (field 1 ∷ [])) ∷ [])))
-    (seq (call #app·lending·step-on (copy (place 16 []) ∷ copy (place 5 []) ∷ copy (place 3 []) ∷ copy (place 18 []) ∷ []) (place 0 []))
+rest-1 = (seq (assign (place 13 []) (rvOpd (copy (place 6 (field 1 ∷ [])))))
+    (seq (cond (copy (place 13 [])) (seq (assign (place 17 []) (addrOf (place 1 (deref τ-Run ∷ []))))
+    (seq (assign (place 18 []) (addrOf (place 5 (field 0 ∷ deref (tyFloat binary64) ∷ []))))
+    (seq (assign (place 19 []) (aggregate (copy (place 18 []) ∷ copy (place 5 (field 1 ∷ [])) ∷ [])))
+    (seq (call #app·lending·step-on (copy (place 17 []) ∷ copy (place 6 []) ∷ copy (place 3 []) ∷ copy (place 4 []) ∷ copy (place 19 []) ∷ []) (place 0 []))
     return)))) skip)
     rest-2))
 
@@ -172,20 +173,20 @@ abbrev walked-fn : Fn
 walked-fn = record {
   lifetimes = 2;
   outlives = [];
-  params = 4;
-  locals = local τ-Reply valueLocal ∷ local (tyRef (named 0) mut (tyNamed (Run′.struct .name, []))) valueLocal ∷ local (tyInt w16) valueLocal ∷ local τ-Triple valueLocal ∷ local (τ-slice (named 1) (tyFloat binary64)) valueLocal ∷ local τ-Look valueLocal ∷ local τ-Mark valueLocal ∷ local τ-Plan valueLocal ∷ local τ-Track valueLocal ∷ local τ-Trial valueLocal ∷ local (tyInt w64) valueLocal ∷ local (tyInt w64) valueLocal ∷ local tyBool valueLocal ∷ local (tyRef erased mut (tyNamed (Run′.struct .name, []))) valueLocal ∷ local (tyRef erased mut (tyFloat binary64)) valueLocal ∷ local (τ-slice erased (tyFloat binary64)) valueLocal ∷ local (tyRef erased mut (tyNamed (Run′.struct .name, []))) valueLocal ∷ local (tyRef erased mut (tyFloat binary64)) valueLocal ∷ local (τ-slice erased (tyFloat binary64)) valueLocal ∷ local (tyRef erased mut (tyNamed (Run′.struct .name, []))) valueLocal ∷ local (tyRef erased mut (tyFloat binary64)) valueLocal ∷ local (τ-slice erased (tyFloat binary64)) valueLocal ∷ [];
-  body = (seq (assign (place 6 []) (rvOpd (copy (place 1 (deref τ-Run ∷ field 0 ∷ [])))))
-      (seq (assign (place 7 []) (rvOpd (copy (place 1 (deref τ-Run ∷ field 1 ∷ field 0 ∷ [])))))
-      (seq (assign (place 8 []) (rvOpd (copy (place 1 (deref τ-Run ∷ field 1 ∷ field 6 ∷ [])))))
-      (seq (assign (place 9 []) (rvOpd (copy (place 1 (deref τ-Run ∷ field 1 ∷ field 7 ∷ [])))))
-      (seq (assign (place 10 []) (rvOpd (copy (place 1 (deref τ-Run ∷ field 1 ∷ field 5 ∷ [])))))
-      (seq (assign (place 11 []) (rvOpd (copy (place 4 (field 1 ∷ [])))))
-      (seq (call #fastpath·look-at (copy (place 6 []) ∷ copy (place 7 []) ∷ copy (place 8 []) ∷ copy (place 9 []) ∷ copy (place 10 []) ∷ copy (place 2 []) ∷ copy (place 3 []) ∷ copy (place 11 []) ∷ []) (place 5 []))
-      (seq (assign (place 12 []) (rvOpd (copy (place 5 (field 0 ∷ [])))))
-      (seq (cond (copy (place 12 [])) (seq (assign (place 13 []) (addrOf (place 1 (deref τ-Run ∷ []))))
-      (seq (assign (place 14 []) (addrOf (place 4 (field 0 ∷ deref (tyFloat binary64) ∷ []))))
-      (seq (assign (place 15 []) (aggregate (copy (place 14 []) ∷ copy (place 4 (field 1 ∷ [])) ∷ [])))
-      (seq (call #app·lending·try-again (copy (place 13 []) ∷ copy (place 5 []) ∷ copy (place 15 []) ∷ []) (place 0 []))
+  params = 5;
+  locals = local τ-Reply valueLocal ∷ local (tyRef (named 0) mut (tyNamed (Run′.struct .name, []))) valueLocal ∷ local (tyInt w16) valueLocal ∷ local τ-Triple valueLocal ∷ local (tyInt w64) valueLocal ∷ local (τ-slice (named 1) (tyFloat binary64)) valueLocal ∷ local τ-Look valueLocal ∷ local τ-Mark valueLocal ∷ local τ-Plan valueLocal ∷ local τ-Track valueLocal ∷ local τ-Trial valueLocal ∷ local (tyInt w64) valueLocal ∷ local (tyInt w64) valueLocal ∷ local tyBool valueLocal ∷ local (tyRef erased mut (tyNamed (Run′.struct .name, []))) valueLocal ∷ local (tyRef erased mut (tyFloat binary64)) valueLocal ∷ local (τ-slice erased (tyFloat binary64)) valueLocal ∷ local (tyRef erased mut (tyNamed (Run′.struct .name, []))) valueLocal ∷ local (tyRef erased mut (tyFloat binary64)) valueLocal ∷ local (τ-slice erased (tyFloat binary64)) valueLocal ∷ local (tyRef erased mut (tyNamed (Run′.struct .name, []))) valueLocal ∷ local (tyRef erased mut (tyFloat binary64)) valueLocal ∷ local (τ-slice erased (tyFloat binary64)) valueLocal ∷ [];
+  body = (seq (assign (place 7 []) (rvOpd (copy (place 1 (deref τ-Run ∷ field 0 ∷ [])))))
+      (seq (assign (place 8 []) (rvOpd (copy (place 1 (deref τ-Run ∷ field 1 ∷ field 0 ∷ [])))))
+      (seq (assign (place 9 []) (rvOpd (copy (place 1 (deref τ-Run ∷ field 1 ∷ field 6 ∷ [])))))
+      (seq (assign (place 10 []) (rvOpd (copy (place 1 (deref τ-Run ∷ field 1 ∷ field 7 ∷ [])))))
+      (seq (assign (place 11 []) (rvOpd (copy (place 1 (deref τ-Run ∷ field 1 ∷ field 5 ∷ [])))))
+      (seq (assign (place 12 []) (rvOpd (copy (place 5 (field 1 ∷ [])))))
+      (seq (call #fastpath·look-at (copy (place 7 []) ∷ copy (place 8 []) ∷ copy (place 9 []) ∷ copy (place 10 []) ∷ copy (place 11 []) ∷ copy (place 2 []) ∷ copy (place 3 []) ∷ copy (place 4 []) ∷ copy (place 12 []) ∷ []) (place 6 []))
+      (seq (assign (place 13 []) (rvOpd (copy (place 6 (field 0 ∷ [])))))
+      (seq (cond (copy (place 13 [])) (seq (assign (place 14 []) (addrOf (place 1 (deref τ-Run ∷ []))))
+      (seq (assign (place 15 []) (addrOf (place 5 (field 0 ∷ deref (tyFloat binary64) ∷ []))))
+      (seq (assign (place 16 []) (aggregate (copy (place 15 []) ∷ copy (place 5 (field 1 ∷ [])) ∷ [])))
+      (seq (call #app·lending·try-again (copy (place 14 []) ∷ copy (place 6 []) ∷ copy (place 16 []) ∷ []) (place 0 []))
       return)))) skip)
       rest-1)))))))));
 }
@@ -194,7 +195,7 @@ function-is : code.function ≡ walked-fn
 function-is = refl
 
 abbrev stayed : Stays (f.ended .signature .params) (f.ended .kept)
-stayed = (gave-ref (0 ∷ []) tt (plain (λ _. Run′.the-row)), (stay-none (λ _. u16) yes, (stay-none (λ _. Triple′.the-row) yes, (gave-slice (1 ∷ []) tt (plain (λ _. f64)), tt))))
+stayed = (gave-ref (0 ∷ []) tt (plain (λ _. Run′.the-row)), (stay-none (λ _. u16) yes, (stay-none (λ _. Triple′.the-row) yes, (stay-none (λ _. u64) yes, (gave-slice (1 ∷ []) tt (plain (λ _. f64)), tt)))))
 
 abbrev Callee-look-at : {M : Type 1} (𝓤 : URA M) (H : Heap 𝓤) (A : Atoms 𝓤) (mem : Memory → SProp 𝓤) (run-of : Routine → Fun 𝓤) → Contract 𝓤
 Callee-look-at 𝓤 H A mem run-of = tripleOf 𝓤 H A g-look-at.signature (g-look-at.spec 𝓤 H A mem run-of)
@@ -216,8 +217,8 @@ holds false t = absurd t
 body-of : (x : Run) (vs : List Val) → Is Run′.the-row x vs → Is Body′.the-row (x .body) ((LL.val Body′.the-type Body″.the-laws (x .body)) ∷ [])
 body-of x vs is = LL.owed Run′.the-type Run″.the-laws x vs is .1 .0
 
-module _ {M : Type 1} (𝓤 : URA M) (H : Heap 𝓤) (A : Atoms 𝓤) (W : Given 𝓤 H A) (at-mem : Memory → SProp 𝓤) (run-of : Routine → Fun 𝓤) (κ-v-run κ-v-out : Lft) (q-v-run q-v-out : Share) (b-v-run o-v-run : ℕ) (γ-v-run : GName) (v-run : Run) (v-number : ℕ) (v-a : Triple) (b-v-out o-v-out : ℕ) (γ-v-out : GName) (v-out : List Float)
-    (v-number-is : Is u16 v-number ((vint w16 v-number) ∷ [])) (v-a-is : Is Triple′.the-row v-a ((LL.val Triple′.the-type Triple″.the-laws v-a) ∷ [])) (v-out-room : Room f64 (length v-out)) where
+module _ {M : Type 1} (𝓤 : URA M) (H : Heap 𝓤) (A : Atoms 𝓤) (W : Given 𝓤 H A) (at-mem : Memory → SProp 𝓤) (run-of : Routine → Fun 𝓤) (κ-v-run κ-v-out : Lft) (q-v-run q-v-out : Share) (b-v-run o-v-run : ℕ) (γ-v-run : GName) (v-run : Run) (v-number : ℕ) (v-a : Triple) (v-from : ℕ) (b-v-out o-v-out : ℕ) (γ-v-out : GName) (v-out : List Float)
+    (v-number-is : Is u16 v-number ((vint w16 v-number) ∷ [])) (v-a-is : Is Triple′.the-row v-a ((LL.val Triple′.the-type Triple″.the-laws v-a) ∷ [])) (v-from-is : Is u64 v-from ((vint w64 v-from) ∷ [])) (v-out-room : Room f64 (length v-out)) where
   abbrev x-v-run : RefT Run
   x-v-run = record { ptr = (b-v-run, o-v-run); name = γ-v-run; now = v-run }
 
@@ -225,24 +226,24 @@ module _ {M : Type 1} (𝓤 : URA M) (H : Heap 𝓤) (A : Atoms 𝓤) (W : Given
   x-v-out = record { ptr = (b-v-out, o-v-out); name = γ-v-out; now = v-out }
 
   abbrev Arg : Type 0
-  Arg = RefT Run × (ℕ × (Triple × (RefT (List Float) × (Unit {0}))))
+  Arg = RefT Run × (ℕ × (Triple × (ℕ × (RefT (List Float) × (Unit {0})))))
 
   abbrev x : Arg
-  x = (x-v-run, (v-number, (v-a, (x-v-out, tt))))
+  x = (x-v-run, (v-number, (v-a, (v-from, (x-v-out, tt)))))
 
-  abbrev at : List Val × (List Val × (List Val × (List Val × (Unit {0}))))
-  at = ((vptr b-v-run o-v-run) ∷ [], ((vint w16 v-number) ∷ [], ((LL.val Triple′.the-type Triple″.the-laws v-a) ∷ [], ((sliceVal (b-v-out, o-v-out) (length v-out)) ∷ [], tt))))
+  abbrev at : List Val × (List Val × (List Val × (List Val × (List Val × (Unit {0})))))
+  at = ((vptr b-v-run o-v-run) ∷ [], ((vint w16 v-number) ∷ [], ((LL.val Triple′.the-type Triple″.the-laws v-a) ∷ [], ((vint w64 v-from) ∷ [], ((sliceVal (b-v-out, o-v-out) (length v-out)) ∷ [], tt)))))
 
   abbrev Post : Val → SProp 𝓤
   Post = walkOf 𝓤 H A f.ended stayed (f.clauses 𝓤 H A at-mem run-of) .post (((κ-v-run, (κ-v-out, tt)), (q-v-run, (q-v-out, tt)), tt, x, at), tt)
 
   -- what each callee's triple binds outside
   abbrev to-look-at : Callee-look-at 𝓤 H A at-mem run-of .Ghost
-  to-look-at = ((tt, tt, tt, ((v-run .mark), ((v-run .body .plan), ((v-run .body .track), ((v-run .body .trial), ((v-run .body .«startup_iters»), (v-number, (v-a, ((length v-out), tt)))))))), ((LL.val Mark′.the-type Mark″.the-laws (v-run .mark)) ∷ [], ((LL.val Plan′.the-type Plan″.the-laws (v-run .body .plan)) ∷ [], ((LL.val Track′.the-type Track″.the-laws (v-run .body .track)) ∷ [], ((LL.val Trial′.the-type Trial″.the-laws (v-run .body .trial)) ∷ [], ((vint w64 (v-run .body .«startup_iters»)) ∷ [], ((vint w16 v-number) ∷ [], ((LL.val Triple′.the-type Triple″.the-laws v-a) ∷ [], ((vint w64 (length v-out)) ∷ [], tt))))))))), tt)
+  to-look-at = ((tt, tt, tt, ((v-run .mark), ((v-run .body .plan), ((v-run .body .track), ((v-run .body .trial), ((v-run .body .«startup_iters»), (v-number, (v-a, (v-from, ((length v-out), tt))))))))), ((LL.val Mark′.the-type Mark″.the-laws (v-run .mark)) ∷ [], ((LL.val Plan′.the-type Plan″.the-laws (v-run .body .plan)) ∷ [], ((LL.val Track′.the-type Track″.the-laws (v-run .body .track)) ∷ [], ((LL.val Trial′.the-type Trial″.the-laws (v-run .body .trial)) ∷ [], ((vint w64 (v-run .body .«startup_iters»)) ∷ [], ((vint w16 v-number) ∷ [], ((LL.val Triple′.the-type Triple″.the-laws v-a) ∷ [], ((vint w64 v-from) ∷ [], ((vint w64 (length v-out)) ∷ [], tt)))))))))), tt)
 
   goes-look-at : (v-run-is : Is Run′.the-row v-run ((LL.val Run′.the-type Run″.the-laws v-run) ∷ [])) → ent 𝓤 (⋆ 𝓤 H A ((‵ ftrue) ∷ [])) (Callee-look-at 𝓤 H A at-mem run-of .pre to-look-at)
   goes-look-at v-run-is =
-      qed W ((‵ ftrue) ∷ []) ∵ owned ! usize (Is usize) (uint-makes 𝓤 H A W w64) (length v-out) _ (refl, v-out-room .0) $ fjoin ! $ owned ! Triple′.the-row (Is Triple′.the-row) (LL.makes Triple′.the-type Triple″.the-plain 𝓤 H A) v-a _ v-a-is $ fjoin ! $ owned ! u16 (Is u16) (uint-makes 𝓤 H A W w16) v-number _ v-number-is $ fjoin ! $ owned ! u64 (Is u64) (uint-makes 𝓤 H A W w64) (v-run .body .«startup_iters») _ (LL.owed Body′.the-type Body″.the-laws (v-run .body) _ (body-of v-run _ v-run-is) .1 .1 .1 .1 .1 .0) $ fjoin ! $ owned ! Trial′.the-row (Is Trial′.the-row) (LL.makes Trial′.the-type Trial″.the-plain 𝓤 H A) (v-run .body .trial) _ (LL.owed Body′.the-type Body″.the-laws (v-run .body) _ (body-of v-run _ v-run-is) .1 .1 .1 .1 .1 .1 .1 .0) $ fjoin ! $ owned ! Track′.the-row (Is Track′.the-row) (LL.makes Track′.the-type Track″.the-plain 𝓤 H A) (v-run .body .track) _ (LL.owed Body′.the-type Body″.the-laws (v-run .body) _ (body-of v-run _ v-run-is) .1 .1 .1 .1 .1 .1 .0) $ fjoin ! $ owned ! Plan′.the-row (Is Plan′.the-row) (LL.makes Plan′.the-type Plan″.the-plain 𝓤 H A) (v-run .body .plan) _ (LL.owed Body′.the-type Body″.the-laws (v-run .body) _ (body-of v-run _ v-run-is) .0) $ fjoin ! $ owned ! Mark′.the-row (Is Mark′.the-row) (LL.makes Mark′.the-type Mark″.the-plain 𝓤 H A) (v-run .mark) _ (LL.owed Run′.the-type Run″.the-laws v-run _ v-run-is .0) $ fjoin ! $ nothing ! $ join ! $ frame ! $ done !
+      qed W ((‵ ftrue) ∷ []) ∵ owned ! usize (Is usize) (uint-makes 𝓤 H A W w64) (length v-out) _ (refl, v-out-room .0) $ fjoin ! $ owned ! u64 (Is u64) (uint-makes 𝓤 H A W w64) v-from _ v-from-is $ fjoin ! $ owned ! Triple′.the-row (Is Triple′.the-row) (LL.makes Triple′.the-type Triple″.the-plain 𝓤 H A) v-a _ v-a-is $ fjoin ! $ owned ! u16 (Is u16) (uint-makes 𝓤 H A W w16) v-number _ v-number-is $ fjoin ! $ owned ! u64 (Is u64) (uint-makes 𝓤 H A W w64) (v-run .body .«startup_iters») _ (LL.owed Body′.the-type Body″.the-laws (v-run .body) _ (body-of v-run _ v-run-is) .1 .1 .1 .1 .1 .0) $ fjoin ! $ owned ! Trial′.the-row (Is Trial′.the-row) (LL.makes Trial′.the-type Trial″.the-plain 𝓤 H A) (v-run .body .trial) _ (LL.owed Body′.the-type Body″.the-laws (v-run .body) _ (body-of v-run _ v-run-is) .1 .1 .1 .1 .1 .1 .1 .0) $ fjoin ! $ owned ! Track′.the-row (Is Track′.the-row) (LL.makes Track′.the-type Track″.the-plain 𝓤 H A) (v-run .body .track) _ (LL.owed Body′.the-type Body″.the-laws (v-run .body) _ (body-of v-run _ v-run-is) .1 .1 .1 .1 .1 .1 .0) $ fjoin ! $ owned ! Plan′.the-row (Is Plan′.the-row) (LL.makes Plan′.the-type Plan″.the-plain 𝓤 H A) (v-run .body .plan) _ (LL.owed Body′.the-type Body″.the-laws (v-run .body) _ (body-of v-run _ v-run-is) .0) $ fjoin ! $ owned ! Mark′.the-row (Is Mark′.the-row) (LL.makes Mark′.the-type Mark″.the-plain 𝓤 H A) (v-run .mark) _ (LL.owed Run′.the-type Run″.the-laws v-run _ v-run-is .0) $ fjoin ! $ nothing ! $ join ! $ frame ! $ done !
 
   abbrev to-try-again : (l : Look) → Callee-try-again 𝓤 H A at-mem run-of .Ghost
   to-try-again l = (((κ-v-run, (κ-v-out, tt)), (q-v-run, (q-v-out, tt)), tt, (x-v-run, (l, (x-v-out, tt))), ((vptr b-v-run o-v-run) ∷ [], ((LL.val Look′.the-type Look″.the-laws l) ∷ [], ((sliceVal (b-v-out, o-v-out) (length v-out)) ∷ [], tt)))), tt)
@@ -252,61 +253,61 @@ module _ {M : Type 1} (𝓤 : URA M) (H : Heap 𝓤) (A : Atoms 𝓤) (W : Given
       qed W ((‵ (flft κ-v-run q-v-run) ⊛ ‵ (flft κ-v-out q-v-out) ⊛ ‵ (MutRef (named 0) κ-v-run Run′.the-row .own x-v-run ((vptr b-v-run o-v-run) ∷ [])) ⊛ ‵ (MutSlice (named 1) κ-v-out f64 .own x-v-out ((sliceVal (b-v-out, o-v-out) (length v-out)) ∷ []))) ∷ []) ∵ split ! $ move ! (1 ∷ []) $ split ! $ move ! (1 ∷ []) $ split ! $ nothing ! $ move ! (2 ∷ 0 ∷ []) $ fjoin ! $ owned ! Look′.the-row (Is Look′.the-row) (LL.makes Look′.the-type Look″.the-plain 𝓤 H A) l _ l-is $ fjoin ! $ move ! (1 ∷ 0 ∷ []) $ fjoin ! $ nothing ! $ move ! (2 ∷ 0 ∷ []) $ join ! $ move ! (2 ∷ 0 ∷ []) $ join ! $ join ! $ frame ! $ done !
 
   abbrev to-step-on : (l : Look) → Callee-step-on 𝓤 H A at-mem run-of .Ghost
-  to-step-on l = (((κ-v-run, (κ-v-out, tt)), (q-v-run, (q-v-out, tt)), tt, (x-v-run, (l, (v-a, (x-v-out, tt)))), ((vptr b-v-run o-v-run) ∷ [], ((LL.val Look′.the-type Look″.the-laws l) ∷ [], ((LL.val Triple′.the-type Triple″.the-laws v-a) ∷ [], ((sliceVal (b-v-out, o-v-out) (length v-out)) ∷ [], tt))))), tt)
+  to-step-on l = (((κ-v-run, (κ-v-out, tt)), (q-v-run, (q-v-out, tt)), tt, (x-v-run, (l, (v-a, (v-from, (x-v-out, tt))))), ((vptr b-v-run o-v-run) ∷ [], ((LL.val Look′.the-type Look″.the-laws l) ∷ [], ((LL.val Triple′.the-type Triple″.the-laws v-a) ∷ [], ((vint w64 v-from) ∷ [], ((sliceVal (b-v-out, o-v-out) (length v-out)) ∷ [], tt)))))), tt)
 
   goes-step-on : (l : Look) (l-is : Is Look′.the-row l ((LL.val Look′.the-type Look″.the-laws l) ∷ [])) → ent 𝓤 (⋆ 𝓤 H A ((‵ (flft κ-v-run q-v-run) ⊛ ‵ (flft κ-v-out q-v-out) ⊛ ‵ (MutRef (named 0) κ-v-run Run′.the-row .own x-v-run ((vptr b-v-run o-v-run) ∷ [])) ⊛ ‵ (MutSlice (named 1) κ-v-out f64 .own x-v-out ((sliceVal (b-v-out, o-v-out) (length v-out)) ∷ []))) ∷ [])) (Callee-step-on 𝓤 H A at-mem run-of .pre (to-step-on l))
   goes-step-on l l-is =
-      qed W ((‵ (flft κ-v-run q-v-run) ⊛ ‵ (flft κ-v-out q-v-out) ⊛ ‵ (MutRef (named 0) κ-v-run Run′.the-row .own x-v-run ((vptr b-v-run o-v-run) ∷ [])) ⊛ ‵ (MutSlice (named 1) κ-v-out f64 .own x-v-out ((sliceVal (b-v-out, o-v-out) (length v-out)) ∷ []))) ∷ []) ∵ split ! $ move ! (1 ∷ []) $ split ! $ move ! (1 ∷ []) $ split ! $ nothing ! $ move ! (2 ∷ 0 ∷ []) $ fjoin ! $ owned ! Triple′.the-row (Is Triple′.the-row) (LL.makes Triple′.the-type Triple″.the-plain 𝓤 H A) v-a _ v-a-is $ fjoin ! $ owned ! Look′.the-row (Is Look′.the-row) (LL.makes Look′.the-type Look″.the-plain 𝓤 H A) l _ l-is $ fjoin ! $ move ! (1 ∷ 0 ∷ []) $ fjoin ! $ nothing ! $ move ! (2 ∷ 0 ∷ []) $ join ! $ move ! (2 ∷ 0 ∷ []) $ join ! $ join ! $ frame ! $ done !
+      qed W ((‵ (flft κ-v-run q-v-run) ⊛ ‵ (flft κ-v-out q-v-out) ⊛ ‵ (MutRef (named 0) κ-v-run Run′.the-row .own x-v-run ((vptr b-v-run o-v-run) ∷ [])) ⊛ ‵ (MutSlice (named 1) κ-v-out f64 .own x-v-out ((sliceVal (b-v-out, o-v-out) (length v-out)) ∷ []))) ∷ []) ∵ split ! $ move ! (1 ∷ []) $ split ! $ move ! (1 ∷ []) $ split ! $ nothing ! $ move ! (2 ∷ 0 ∷ []) $ fjoin ! $ owned ! u64 (Is u64) (uint-makes 𝓤 H A W w64) v-from _ v-from-is $ fjoin ! $ owned ! Triple′.the-row (Is Triple′.the-row) (LL.makes Triple′.the-type Triple″.the-plain 𝓤 H A) v-a _ v-a-is $ fjoin ! $ owned ! Look′.the-row (Is Look′.the-row) (LL.makes Look′.the-type Look″.the-plain 𝓤 H A) l _ l-is $ fjoin ! $ move ! (1 ∷ 0 ∷ []) $ fjoin ! $ nothing ! $ move ! (2 ∷ 0 ∷ []) $ join ! $ move ! (2 ∷ 0 ∷ []) $ join ! $ join ! $ frame ! $ done !
 
   abbrev to-answer-plainly : Callee-answer-plainly 𝓤 H A at-mem run-of .Ghost
-  to-answer-plainly = (((κ-v-run, (κ-v-out, tt)), (q-v-run, (q-v-out, tt)), tt, (x-v-run, (v-number, (v-a, (x-v-out, tt)))), ((vptr b-v-run o-v-run) ∷ [], ((vint w16 v-number) ∷ [], ((LL.val Triple′.the-type Triple″.the-laws v-a) ∷ [], ((sliceVal (b-v-out, o-v-out) (length v-out)) ∷ [], tt))))), tt)
+  to-answer-plainly = (((κ-v-run, (κ-v-out, tt)), (q-v-run, (q-v-out, tt)), tt, (x-v-run, (v-number, (v-a, (v-from, (x-v-out, tt))))), ((vptr b-v-run o-v-run) ∷ [], ((vint w16 v-number) ∷ [], ((LL.val Triple′.the-type Triple″.the-laws v-a) ∷ [], ((vint w64 v-from) ∷ [], ((sliceVal (b-v-out, o-v-out) (length v-out)) ∷ [], tt)))))), tt)
 
   goes-answer-plainly : ent 𝓤 (⋆ 𝓤 H A ((‵ (flft κ-v-run q-v-run) ⊛ ‵ (flft κ-v-out q-v-out) ⊛ ‵ (MutRef (named 0) κ-v-run Run′.the-row .own x-v-run ((vptr b-v-run o-v-run) ∷ [])) ⊛ ‵ (MutSlice (named 1) κ-v-out f64 .own x-v-out ((sliceVal (b-v-out, o-v-out) (length v-out)) ∷ []))) ∷ [])) (Callee-answer-plainly 𝓤 H A at-mem run-of .pre (to-answer-plainly))
   goes-answer-plainly =
-      qed W ((‵ (flft κ-v-run q-v-run) ⊛ ‵ (flft κ-v-out q-v-out) ⊛ ‵ (MutRef (named 0) κ-v-run Run′.the-row .own x-v-run ((vptr b-v-run o-v-run) ∷ [])) ⊛ ‵ (MutSlice (named 1) κ-v-out f64 .own x-v-out ((sliceVal (b-v-out, o-v-out) (length v-out)) ∷ []))) ∷ []) ∵ split ! $ move ! (1 ∷ []) $ split ! $ move ! (1 ∷ []) $ split ! $ nothing ! $ move ! (2 ∷ 0 ∷ []) $ fjoin ! $ owned ! Triple′.the-row (Is Triple′.the-row) (LL.makes Triple′.the-type Triple″.the-plain 𝓤 H A) v-a _ v-a-is $ fjoin ! $ owned ! u16 (Is u16) (uint-makes 𝓤 H A W w16) v-number _ v-number-is $ fjoin ! $ move ! (1 ∷ 0 ∷ []) $ fjoin ! $ nothing ! $ move ! (2 ∷ 0 ∷ []) $ join ! $ move ! (2 ∷ 0 ∷ []) $ join ! $ join ! $ frame ! $ done !
+      qed W ((‵ (flft κ-v-run q-v-run) ⊛ ‵ (flft κ-v-out q-v-out) ⊛ ‵ (MutRef (named 0) κ-v-run Run′.the-row .own x-v-run ((vptr b-v-run o-v-run) ∷ [])) ⊛ ‵ (MutSlice (named 1) κ-v-out f64 .own x-v-out ((sliceVal (b-v-out, o-v-out) (length v-out)) ∷ []))) ∷ []) ∵ split ! $ move ! (1 ∷ []) $ split ! $ move ! (1 ∷ []) $ split ! $ nothing ! $ move ! (2 ∷ 0 ∷ []) $ fjoin ! $ owned ! u64 (Is u64) (uint-makes 𝓤 H A W w64) v-from _ v-from-is $ fjoin ! $ owned ! Triple′.the-row (Is Triple′.the-row) (LL.makes Triple′.the-type Triple″.the-plain 𝓤 H A) v-a _ v-a-is $ fjoin ! $ owned ! u16 (Is u16) (uint-makes 𝓤 H A W w16) v-number _ v-number-is $ fjoin ! $ move ! (1 ∷ 0 ∷ []) $ fjoin ! $ nothing ! $ move ! (2 ∷ 0 ∷ []) $ join ! $ move ! (2 ∷ 0 ∷ []) $ join ! $ join ! $ frame ! $ done !
 
-  exits : (r : Reply) (z-v-run : Run) (z-v-out : List Float) → (r ≡ replyOf (answered (v-run) v-number v-a (v-out) .got .outcome)) × (z-v-run ≡ answered (v-run) v-number v-a (v-out) .got .run) × (z-v-out ≡ answered (v-run) v-number v-a (v-out) .out) → length z-v-out ≡ length v-out → Is Reply′.the-row r ((LL.val Reply′.the-type Reply″.the-laws r) ∷ []) → ent 𝓤 (⋆ 𝓤 H A (‵ (flft κ-v-run q-v-run) ∷ ‵ (flft κ-v-out q-v-out) ∷ ‵ (fres γ-v-run (Run′.the-row .coded .code z-v-run)) ∷ ‵ (finally f64 γ-v-out z-v-out) ∷ [])) (Post (LL.val Reply′.the-type Reply″.the-laws r))
+  exits : (r : Reply) (z-v-run : Run) (z-v-out : List Float) → (r ≡ answerReply (answered (v-run) v-number v-a (tens v-from (v-out)) .got)) × (z-v-run ≡ answered (v-run) v-number v-a (tens v-from (v-out)) .got .run) × (z-v-out ≡ numbersOf (answered (v-run) v-number v-a (tens v-from (v-out)) .out)) → length z-v-out ≡ length v-out → Is Reply′.the-row r ((LL.val Reply′.the-type Reply″.the-laws r) ∷ []) → ent 𝓤 (⋆ 𝓤 H A (‵ (flft κ-v-run q-v-run) ∷ ‵ (flft κ-v-out q-v-out) ∷ ‵ (fres γ-v-run (Run′.the-row .coded .code z-v-run)) ∷ ‵ (finally f64 γ-v-out z-v-out) ∷ [])) (Post (LL.val Reply′.the-type Reply″.the-laws r))
   exits r z-v-run z-v-out e l-v-out is =
       qed W (‵ (flft κ-v-run q-v-run) ∷ ‵ (flft κ-v-out q-v-out) ∷ ‵ (fres γ-v-run (Run′.the-row .coded .code z-v-run)) ∷ ‵ (finally f64 γ-v-out z-v-out) ∷ []) ∵
-      suffices ! _ (ends-at 𝓤 H A f.ended stayed (f.clauses 𝓤 H A at-mem run-of) W (((κ-v-run, (κ-v-out, tt)), (q-v-run, (q-v-out, tt)), tt, x, at), tt) (LL.val Reply′.the-type Reply″.the-laws r) r (z-v-run, (tt, (tt, (z-v-out, tt)))) (tt, (tt, (tt, (l-v-out, tt))))) $ says ! e $ nothing ! $ move ! (2 ∷ 0 ∷ []) $ join ! $ move ! (1 ∷ 0 ∷ []) $ join ! $ frame ! $ nothing ! $ move ! (2 ∷ 0 ∷ []) $ fjoin ! $ owned ! Triple′.the-row (Is Triple′.the-row) (LL.makes Triple′.the-type Triple″.the-plain 𝓤 H A) v-a _ v-a-is $ fjoin ! $ owned ! u16 (Is u16) (uint-makes 𝓤 H A W w16) v-number _ v-number-is $ fjoin ! $ move ! (1 ∷ 0 ∷ []) $ fjoin ! $ owned ! Reply′.the-row (Is Reply′.the-row) (LL.makes Reply′.the-type Reply″.the-plain 𝓤 H A) r _ is $ move ! (1 ∷ 0 ∷ []) $ done !
+      suffices ! _ (ends-at 𝓤 H A f.ended stayed (f.clauses 𝓤 H A at-mem run-of) W (((κ-v-run, (κ-v-out, tt)), (q-v-run, (q-v-out, tt)), tt, x, at), tt) (LL.val Reply′.the-type Reply″.the-laws r) r (z-v-run, (tt, (tt, (tt, (z-v-out, tt))))) (tt, (tt, (tt, (tt, (l-v-out, tt)))))) $ says ! e $ nothing ! $ move ! (2 ∷ 0 ∷ []) $ join ! $ move ! (1 ∷ 0 ∷ []) $ join ! $ frame ! $ nothing ! $ move ! (2 ∷ 0 ∷ []) $ fjoin ! $ owned ! u64 (Is u64) (uint-makes 𝓤 H A W w64) v-from _ v-from-is $ fjoin ! $ owned ! Triple′.the-row (Is Triple′.the-row) (LL.makes Triple′.the-type Triple″.the-plain 𝓤 H A) v-a _ v-a-is $ fjoin ! $ owned ! u16 (Is u16) (uint-makes 𝓤 H A W w16) v-number _ v-number-is $ fjoin ! $ move ! (1 ∷ 0 ∷ []) $ fjoin ! $ owned ! Reply′.the-row (Is Reply′.the-row) (LL.makes Reply′.the-type Reply″.the-plain 𝓤 H A) r _ is $ move ! (1 ∷ 0 ∷ []) $ done !
 
   module _ (C : Calls 𝓤 H) (Λ : Loops 𝓤 H) (fm : FmC 𝓤 H (W .laws) C)
       (known-look-at : Meeting 𝓤 (C #fastpath·look-at) (Callee-look-at 𝓤 H A at-mem run-of)) (known-try-again : Meeting 𝓤 (C #app·lending·try-again) (Callee-try-again 𝓤 H A at-mem run-of)) (known-step-on : Meeting 𝓤 (C #app·lending·step-on) (Callee-step-on 𝓤 H A at-mem run-of)) (known-answer-plainly : Meeting 𝓤 (C #app·lending·answer-plainly) (Callee-answer-plainly 𝓤 H A at-mem run-of)) where
-    abbrev En : ℕ → ℕ → ℕ → ℕ → ℕ → ℕ → ℕ → ℕ → ℕ → ℕ → ℕ → ℕ → ℕ → ℕ → ℕ → ℕ → ℕ → ℕ → ℕ → ℕ → ℕ → ℕ → Env 𝓤 H
-    En l-0 l-1 l-2 l-3 l-4 l-5 l-6 l-7 l-8 l-9 l-10 l-11 l-12 l-13 l-14 l-15 l-16 l-17 l-18 l-19 l-20 l-21 = (τ-Reply, l-0) ∷ ((tyRef (named 0) mut (tyNamed (Run′.struct .name, []))), l-1) ∷ ((tyInt w16), l-2) ∷ (τ-Triple, l-3) ∷ ((τ-slice (named 1) (tyFloat binary64)), l-4) ∷ (τ-Look, l-5) ∷ (τ-Mark, l-6) ∷ (τ-Plan, l-7) ∷ (τ-Track, l-8) ∷ (τ-Trial, l-9) ∷ ((tyInt w64), l-10) ∷ ((tyInt w64), l-11) ∷ (tyBool, l-12) ∷ ((tyRef erased mut (tyNamed (Run′.struct .name, []))), l-13) ∷ ((tyRef erased mut (tyFloat binary64)), l-14) ∷ ((τ-slice erased (tyFloat binary64)), l-15) ∷ ((tyRef erased mut (tyNamed (Run′.struct .name, []))), l-16) ∷ ((tyRef erased mut (tyFloat binary64)), l-17) ∷ ((τ-slice erased (tyFloat binary64)), l-18) ∷ ((tyRef erased mut (tyNamed (Run′.struct .name, []))), l-19) ∷ ((tyRef erased mut (tyFloat binary64)), l-20) ∷ ((τ-slice erased (tyFloat binary64)), l-21) ∷ []
+    abbrev En : ℕ → ℕ → ℕ → ℕ → ℕ → ℕ → ℕ → ℕ → ℕ → ℕ → ℕ → ℕ → ℕ → ℕ → ℕ → ℕ → ℕ → ℕ → ℕ → ℕ → ℕ → ℕ → ℕ → Env 𝓤 H
+    En l-0 l-1 l-2 l-3 l-4 l-5 l-6 l-7 l-8 l-9 l-10 l-11 l-12 l-13 l-14 l-15 l-16 l-17 l-18 l-19 l-20 l-21 l-22 = (τ-Reply, l-0) ∷ ((tyRef (named 0) mut (tyNamed (Run′.struct .name, []))), l-1) ∷ ((tyInt w16), l-2) ∷ (τ-Triple, l-3) ∷ ((tyInt w64), l-4) ∷ ((τ-slice (named 1) (tyFloat binary64)), l-5) ∷ (τ-Look, l-6) ∷ (τ-Mark, l-7) ∷ (τ-Plan, l-8) ∷ (τ-Track, l-9) ∷ (τ-Trial, l-10) ∷ ((tyInt w64), l-11) ∷ ((tyInt w64), l-12) ∷ (tyBool, l-13) ∷ ((tyRef erased mut (tyNamed (Run′.struct .name, []))), l-14) ∷ ((tyRef erased mut (tyFloat binary64)), l-15) ∷ ((τ-slice erased (tyFloat binary64)), l-16) ∷ ((tyRef erased mut (tyNamed (Run′.struct .name, []))), l-17) ∷ ((tyRef erased mut (tyFloat binary64)), l-18) ∷ ((τ-slice erased (tyFloat binary64)), l-19) ∷ ((tyRef erased mut (tyNamed (Run′.struct .name, []))), l-20) ∷ ((tyRef erased mut (tyFloat binary64)), l-21) ∷ ((τ-slice erased (tyFloat binary64)), l-22) ∷ []
 
-    walk : ent 𝓤 (onEntry 𝓤 H A f.signature (κ-v-run, (κ-v-out, tt)) (q-v-run, (q-v-out, tt)) x at) (WpFn 𝓤 H C Λ walked-fn ((vptr b-v-run o-v-run) ∷ (vint w16 v-number) ∷ (LL.val Triple′.the-type Triple″.the-laws v-a) ∷ (sliceVal (b-v-out, o-v-out) (length v-out)) ∷ []) Post)
+    walk : ent 𝓤 (onEntry 𝓤 H A f.signature (κ-v-run, (κ-v-out, tt)) (q-v-run, (q-v-out, tt)) x at) (WpFn 𝓤 H C Λ walked-fn ((vptr b-v-run o-v-run) ∷ (vint w16 v-number) ∷ (LL.val Triple′.the-type Triple″.the-laws v-a) ∷ (vint w64 v-from) ∷ (sliceVal (b-v-out, o-v-out) (length v-out)) ∷ []) Post)
     walk =
-        qed W ((‵ (flft κ-v-run q-v-run) ⊛ ‵ (flft κ-v-out q-v-out) ⊛ ‵ ftrue) ∷ ‵ (owns (MutRef (named 0) κ-v-run Run′.the-row ∷ u16 ∷ Triple′.the-row ∷ MutSlice (named 1) κ-v-out f64 ∷ []) x at) ∷ []) ∵ enter ! C Λ walked-fn ((vptr b-v-run o-v-run) ∷ (vint w16 v-number) ∷ (LL.val Triple′.the-type Triple″.the-laws v-a) ∷ (sliceVal (b-v-out, o-v-out) (length v-out)) ∷ []) _ $
-        alloc1 ! (λ l-0. alloc1 ! (λ l-1. alloc1 ! (λ l-2. alloc1 ! (λ l-3. alloc1 ! (λ l-4. alloc1 ! (λ l-5. alloc1 ! (λ l-6. alloc1 ! (λ l-7. alloc1 ! (λ l-8. alloc1 ! (λ l-9. alloc1 ! (λ l-10. alloc1 ! (λ l-11. alloc1 ! (λ l-12. alloc1 ! (λ l-13. alloc1 ! (λ l-14. alloc1 ! (λ l-15. alloc1 ! (λ l-16. alloc1 ! (λ l-17. alloc1 ! (λ l-18. alloc1 ! (λ l-19. alloc1 ! (λ l-20. alloc1 ! (λ l-21. alloc0 ! $ params1 ! $
-        pass1 ! (init ! 40 refl (tt, tt)) $ pass1 ! (init ! 38 refl (uint-lawful 𝓤 H A W w16 .typed v-number _ v-number-is .0)) $ pass1 ! (init ! 36 refl (LL.lawful Triple′.the-type Triple″.the-laws 𝓤 H A W .typed v-a _ v-a-is .0)) $ pass1 ! (init ! 34 refl (tt, (tt, (record { fits = v-out-room .0 }, tt)))) $ pass0 ! $
+        qed W ((‵ (flft κ-v-run q-v-run) ⊛ ‵ (flft κ-v-out q-v-out) ⊛ ‵ ftrue) ∷ ‵ (owns (MutRef (named 0) κ-v-run Run′.the-row ∷ u16 ∷ Triple′.the-row ∷ u64 ∷ MutSlice (named 1) κ-v-out f64 ∷ []) x at) ∷ []) ∵ enter ! C Λ walked-fn ((vptr b-v-run o-v-run) ∷ (vint w16 v-number) ∷ (LL.val Triple′.the-type Triple″.the-laws v-a) ∷ (vint w64 v-from) ∷ (sliceVal (b-v-out, o-v-out) (length v-out)) ∷ []) _ $
+        alloc1 ! (λ l-0. alloc1 ! (λ l-1. alloc1 ! (λ l-2. alloc1 ! (λ l-3. alloc1 ! (λ l-4. alloc1 ! (λ l-5. alloc1 ! (λ l-6. alloc1 ! (λ l-7. alloc1 ! (λ l-8. alloc1 ! (λ l-9. alloc1 ! (λ l-10. alloc1 ! (λ l-11. alloc1 ! (λ l-12. alloc1 ! (λ l-13. alloc1 ! (λ l-14. alloc1 ! (λ l-15. alloc1 ! (λ l-16. alloc1 ! (λ l-17. alloc1 ! (λ l-18. alloc1 ! (λ l-19. alloc1 ! (λ l-20. alloc1 ! (λ l-21. alloc1 ! (λ l-22. alloc0 ! $ params1 ! $
+        pass1 ! (init ! 42 refl (tt, tt)) $ pass1 ! (init ! 40 refl (uint-lawful 𝓤 H A W w16 .typed v-number _ v-number-is .0)) $ pass1 ! (init ! 38 refl (LL.lawful Triple′.the-type Triple″.the-laws 𝓤 H A W .typed v-a _ v-a-is .0)) $ pass1 ! (init ! 36 refl (uint-lawful 𝓤 H A W w64 .typed v-from _ v-from-is .0)) $ pass1 ! (init ! 34 refl (tt, (tt, (record { fits = v-out-room .0 }, tt)))) $ pass0 ! $
         -- what the parameters own, and the tokens, are taken apart
-        move ! (45 ∷ []) $ fsplit ! $ move ! (1 ∷ []) $ fsplit ! $ move ! (1 ∷ []) $ fsplit ! $ move ! (1 ∷ []) $ fsplit ! $ move ! (49 ∷ []) $ split ! $ move ! (1 ∷ []) $ split ! $
+        move ! (47 ∷ []) $ fsplit ! $ move ! (1 ∷ []) $ fsplit ! $ move ! (1 ∷ []) $ fsplit ! $ move ! (1 ∷ []) $ fsplit ! $ move ! (1 ∷ []) $ fsplit ! $ move ! (52 ∷ []) $ split ! $ move ! (1 ∷ []) $ split ! $
         -- the borrow of the struct is opened, parts of it are read, and it is closed as it was
-        move ! (7 ∷ []) $ fsplit3 ! $ drop ! $ move ! (0 ∷ 1 ∷ 4 ∷ []) $ opens ! tt Run′.the-row {h = v-run} b-v-run o-v-run (λ vs. spelt ! Run′.the-row (Is Run′.the-row) (shows 𝓤 H A Run′.the-row) (LL.vals Run′.the-type Run″.the-laws) (LL.tells Run′.the-type Run″.the-laws) fullShare v-run vs b-v-run o-v-run $ move ! (1 ∷ []) $ peeks ! Run′.the-row (Is Run′.the-row) (shows 𝓤 H A Run′.the-row) v-run ((LL.val Run′.the-type Run″.the-laws v-run) ∷ []) (λ v-run-is. drop ! $ use1 W (‵ (fat fullShare τ-Run b-v-run o-v-run (LL.val Run′.the-type Run″.the-laws v-run))) (W .laws .raw-at fullShare τ-Run b-v-run o-v-run (LL.val Run′.the-type Run″.the-laws v-run)) $ assigns ! (of-opd ! (load ! (from ! (hop ! (look ! 50 refl) (fld ! {τ = τ-Mark} refl (stop !)))) (look-in ! 0 (sub ! {τs = (tcons τ-Mark (tcons τ-Body tnil))} 0 refl (whole !))))) (from ! (stop !)) (init ! 40 refl (LL.lawful Mark′.the-type Mark″.the-laws 𝓤 H A W .typed (v-run .mark) _ (LL.owed Run′.the-type Run″.the-laws v-run _ v-run-is .0) .0)) $ assigns ! (of-opd ! (load ! (from ! (hop ! (look ! 50 refl) (fld ! {τ = τ-Body} refl (fld ! {τ = τ-Plan} refl (stop !))))) (look-in ! 0 (sub ! {τs = (tcons τ-Plan (tcons τ-Places (tcons τ-nine (tcons τ-Slopes (tcons τ-Widest (tcons (tyInt w64) (tcons τ-Track (tcons τ-Trial tnil))))))))} 0 refl (sub ! {τs = (tcons τ-Mark (tcons τ-Body tnil))} 1 refl (whole !)))))) (from ! (stop !)) (init ! 38 refl (LL.lawful Plan′.the-type Plan″.the-laws 𝓤 H A W .typed (v-run .body .plan) _ (LL.owed Body′.the-type Body″.the-laws (v-run .body) _ (body-of v-run _ v-run-is) .0) .0)) $ assigns ! (of-opd ! (load ! (from ! (hop ! (look ! 50 refl) (fld ! {τ = τ-Body} refl (fld ! {τ = τ-Track} refl (stop !))))) (look-in ! 0 (sub ! {τs = (tcons τ-Plan (tcons τ-Places (tcons τ-nine (tcons τ-Slopes (tcons τ-Widest (tcons (tyInt w64) (tcons τ-Track (tcons τ-Trial tnil))))))))} 6 refl (sub ! {τs = (tcons τ-Mark (tcons τ-Body tnil))} 1 refl (whole !)))))) (from ! (stop !)) (init ! 36 refl (LL.lawful Track′.the-type Track″.the-laws 𝓤 H A W .typed (v-run .body .track) _ (LL.owed Body′.the-type Body″.the-laws (v-run .body) _ (body-of v-run _ v-run-is) .1 .1 .1 .1 .1 .1 .0) .0)) $ assigns ! (of-opd ! (load ! (from ! (hop ! (look ! 50 refl) (fld ! {τ = τ-Body} refl (fld ! {τ = τ-Trial} refl (stop !))))) (look-in ! 0 (sub ! {τs = (tcons τ-Plan (tcons τ-Places (tcons τ-nine (tcons τ-Slopes (tcons τ-Widest (tcons (tyInt w64) (tcons τ-Track (tcons τ-Trial tnil))))))))} 7 refl (sub ! {τs = (tcons τ-Mark (tcons τ-Body tnil))} 1 refl (whole !)))))) (from ! (stop !)) (init ! 34 refl (LL.lawful Trial′.the-type Trial″.the-laws 𝓤 H A W .typed (v-run .body .trial) _ (LL.owed Body′.the-type Body″.the-laws (v-run .body) _ (body-of v-run _ v-run-is) .1 .1 .1 .1 .1 .1 .1 .0) .0)) $ assigns ! (of-opd ! (load ! (from ! (hop ! (look ! 50 refl) (fld ! {τ = τ-Body} refl (fld ! {τ = (tyInt w64)} refl (stop !))))) (look-in ! 0 (sub ! {τs = (tcons τ-Plan (tcons τ-Places (tcons τ-nine (tcons τ-Slopes (tcons τ-Widest (tcons (tyInt w64) (tcons τ-Track (tcons τ-Trial tnil))))))))} 5 refl (sub ! {τs = (tcons τ-Mark (tcons τ-Body tnil))} 1 refl (whole !)))))) (from ! (stop !)) (init ! 32 refl (uint-lawful 𝓤 H A W w64 .typed (v-run .body .«startup_iters») _ (LL.owed Body′.the-type Body″.the-laws (v-run .body) _ (body-of v-run _ v-run-is) .1 .1 .1 .1 .1 .0) .0)) $ assigns ! (of-opd ! (load ! (from ! (fld ! refl (stop !))) (look-in ! 44 (sub ! 1 refl (whole !))))) (from ! (stop !)) (init ! 30 refl (tt, record { fits = v-out-room .0 })) $ use1 W (‵ (fat fullShare (rawTy τ-Run) b-v-run o-v-run (LL.val Run′.the-type Run″.the-laws v-run))) (W .laws .at-raw fullShare τ-Run b-v-run o-v-run (LL.val Run′.the-type Run″.the-laws v-run)) $ owned ! Run′.the-row (Is Run′.the-row) (LL.makes Run′.the-type Run″.the-plain 𝓤 H A) v-run _ v-run-is $ move ! (1 ∷ 0 ∷ 2 ∷ 3 ∷ 4 ∷ []) $ closes ! tt Run′.the-row v-run ((LL.val Run′.the-type Run″.the-laws v-run) ∷ []) b-v-run o-v-run $
+        move ! (8 ∷ []) $ fsplit3 ! $ drop ! $ move ! (0 ∷ 1 ∷ 4 ∷ []) $ opens ! tt Run′.the-row {h = v-run} b-v-run o-v-run (λ vs. spelt ! Run′.the-row (Is Run′.the-row) (shows 𝓤 H A Run′.the-row) (LL.vals Run′.the-type Run″.the-laws) (LL.tells Run′.the-type Run″.the-laws) fullShare v-run vs b-v-run o-v-run $ move ! (1 ∷ []) $ peeks ! Run′.the-row (Is Run′.the-row) (shows 𝓤 H A Run′.the-row) v-run ((LL.val Run′.the-type Run″.the-laws v-run) ∷ []) (λ v-run-is. drop ! $ use1 W (‵ (fat fullShare τ-Run b-v-run o-v-run (LL.val Run′.the-type Run″.the-laws v-run))) (W .laws .raw-at fullShare τ-Run b-v-run o-v-run (LL.val Run′.the-type Run″.the-laws v-run)) $ assigns ! (of-opd ! (load ! (from ! (hop ! (look ! 53 refl) (fld ! {τ = τ-Mark} refl (stop !)))) (look-in ! 0 (sub ! {τs = (tcons τ-Mark (tcons τ-Body tnil))} 0 refl (whole !))))) (from ! (stop !)) (init ! 41 refl (LL.lawful Mark′.the-type Mark″.the-laws 𝓤 H A W .typed (v-run .mark) _ (LL.owed Run′.the-type Run″.the-laws v-run _ v-run-is .0) .0)) $ assigns ! (of-opd ! (load ! (from ! (hop ! (look ! 53 refl) (fld ! {τ = τ-Body} refl (fld ! {τ = τ-Plan} refl (stop !))))) (look-in ! 0 (sub ! {τs = (tcons τ-Plan (tcons τ-Places (tcons τ-nine (tcons τ-Slopes (tcons τ-Widest (tcons (tyInt w64) (tcons τ-Track (tcons τ-Trial tnil))))))))} 0 refl (sub ! {τs = (tcons τ-Mark (tcons τ-Body tnil))} 1 refl (whole !)))))) (from ! (stop !)) (init ! 39 refl (LL.lawful Plan′.the-type Plan″.the-laws 𝓤 H A W .typed (v-run .body .plan) _ (LL.owed Body′.the-type Body″.the-laws (v-run .body) _ (body-of v-run _ v-run-is) .0) .0)) $ assigns ! (of-opd ! (load ! (from ! (hop ! (look ! 53 refl) (fld ! {τ = τ-Body} refl (fld ! {τ = τ-Track} refl (stop !))))) (look-in ! 0 (sub ! {τs = (tcons τ-Plan (tcons τ-Places (tcons τ-nine (tcons τ-Slopes (tcons τ-Widest (tcons (tyInt w64) (tcons τ-Track (tcons τ-Trial tnil))))))))} 6 refl (sub ! {τs = (tcons τ-Mark (tcons τ-Body tnil))} 1 refl (whole !)))))) (from ! (stop !)) (init ! 37 refl (LL.lawful Track′.the-type Track″.the-laws 𝓤 H A W .typed (v-run .body .track) _ (LL.owed Body′.the-type Body″.the-laws (v-run .body) _ (body-of v-run _ v-run-is) .1 .1 .1 .1 .1 .1 .0) .0)) $ assigns ! (of-opd ! (load ! (from ! (hop ! (look ! 53 refl) (fld ! {τ = τ-Body} refl (fld ! {τ = τ-Trial} refl (stop !))))) (look-in ! 0 (sub ! {τs = (tcons τ-Plan (tcons τ-Places (tcons τ-nine (tcons τ-Slopes (tcons τ-Widest (tcons (tyInt w64) (tcons τ-Track (tcons τ-Trial tnil))))))))} 7 refl (sub ! {τs = (tcons τ-Mark (tcons τ-Body tnil))} 1 refl (whole !)))))) (from ! (stop !)) (init ! 35 refl (LL.lawful Trial′.the-type Trial″.the-laws 𝓤 H A W .typed (v-run .body .trial) _ (LL.owed Body′.the-type Body″.the-laws (v-run .body) _ (body-of v-run _ v-run-is) .1 .1 .1 .1 .1 .1 .1 .0) .0)) $ assigns ! (of-opd ! (load ! (from ! (hop ! (look ! 53 refl) (fld ! {τ = τ-Body} refl (fld ! {τ = (tyInt w64)} refl (stop !))))) (look-in ! 0 (sub ! {τs = (tcons τ-Plan (tcons τ-Places (tcons τ-nine (tcons τ-Slopes (tcons τ-Widest (tcons (tyInt w64) (tcons τ-Track (tcons τ-Trial tnil))))))))} 5 refl (sub ! {τs = (tcons τ-Mark (tcons τ-Body tnil))} 1 refl (whole !)))))) (from ! (stop !)) (init ! 33 refl (uint-lawful 𝓤 H A W w64 .typed (v-run .body .«startup_iters») _ (LL.owed Body′.the-type Body″.the-laws (v-run .body) _ (body-of v-run _ v-run-is) .1 .1 .1 .1 .1 .0) .0)) $ assigns ! (of-opd ! (load ! (from ! (fld ! refl (stop !))) (look-in ! 45 (sub ! 1 refl (whole !))))) (from ! (stop !)) (init ! 31 refl (tt, record { fits = v-out-room .0 })) $ use1 W (‵ (fat fullShare (rawTy τ-Run) b-v-run o-v-run (LL.val Run′.the-type Run″.the-laws v-run))) (W .laws .at-raw fullShare τ-Run b-v-run o-v-run (LL.val Run′.the-type Run″.the-laws v-run)) $ owned ! Run′.the-row (Is Run′.the-row) (LL.makes Run′.the-type Run″.the-plain 𝓤 H A) v-run _ v-run-is $ move ! (1 ∷ 0 ∷ 2 ∷ 3 ∷ 4 ∷ []) $ closes ! tt Run′.the-row v-run ((LL.val Run′.the-type Run″.the-laws v-run) ∷ []) b-v-run o-v-run $
         -- the call of look_at
-        nothing ! $ use1 W (raw (Callee-look-at 𝓤 H A at-mem run-of .pre to-look-at)) (goes-look-at v-run-is) $ calls-at ! fm (Callee-look-at 𝓤 H A at-mem run-of) known-look-at to-look-at (and-then ! (load ! (from ! (stop !)) (look ! 40 refl)) (and-then ! (load ! (from ! (stop !)) (look ! 38 refl)) (and-then ! (load ! (from ! (stop !)) (look ! 36 refl)) (and-then ! (load ! (from ! (stop !)) (look ! 34 refl)) (and-then ! (load ! (from ! (stop !)) (look ! 32 refl)) (and-then ! (load ! (from ! (stop !)) (look ! 48 refl)) (and-then ! (load ! (from ! (stop !)) (look ! 46 refl)) (and-then ! (load ! (from ! (stop !)) (look ! 30 refl)) (no-more !))))))))) (λ w-l.
-        use1 W (later (some (λ (l : Look). ((‵ ftrue) ⊛ ‵ (Look′.the-row .own l (w-l ∷ []))) ⊛ raw (ensured 𝓤 H A g-look-at.ended (g-look-at.clauses 𝓤 H A at-mem run-of) tt ((v-run .mark), ((v-run .body .plan), ((v-run .body .track), ((v-run .body .trial), ((v-run .body .«startup_iters»), (v-number, (v-a, ((length v-out), tt)))))))) tt l)))) (id⊢ 𝓤 _) $ await ! tt $ pick ! (λ l. split ! $ move ! (1 ∷ []) $ use1 W (some (λ (zs : Unit {0} × (Unit {0} × (Unit {0} × (Unit {0} × (Unit {0} × (Unit {0} × (Unit {0} × (Unit {0} × (Unit {0}))))))))). ‵ (lasts g-look-at.ended tt ((v-run .mark), ((v-run .body .plan), ((v-run .body .track), ((v-run .body .trial), ((v-run .body .«startup_iters»), (v-number, (v-a, ((length v-out), tt)))))))) zs) ⊛ raw (fact 𝓤 (l ≡ lookedAt (v-run .mark) (v-run .body .plan) (v-run .body .track) (v-run .body .trial) (v-run .body .«startup_iters») v-number v-a (length v-out))))) (id⊢ 𝓤 _) $ pick ! (λ zs-l. split ! $ move ! (1 ∷ []) $ heard ! (l ≡ lookedAt (v-run .mark) (v-run .body .plan) (v-run .body .track) (v-run .body .trial) (v-run .body .«startup_iters») v-number v-a (length v-out)) (λ e-l. fsplit ! $ drop ! $ fsplit ! $ drop ! $ fsplit ! $ drop ! $ fsplit ! $ drop ! $ fsplit ! $ drop ! $ fsplit ! $ drop ! $ fsplit ! $ drop ! $ fsplit ! $ drop ! $ move ! (1 ∷ []) $ split ! $ move ! (1 ∷ []) $ peeks ! Look′.the-row (Is Look′.the-row) (shows 𝓤 H A Look′.the-row) l (w-l ∷ []) (λ l-was. land ! (from ! (stop !)) (init ! 44 refl (LL.lawful Look′.the-type Look″.the-laws 𝓤 H A W .typed l _ l-was .0)) $ rewrite ! 44 (λ (u : Val). ‵ (fat fullShare Look″.mir l-5 0 u)) (ap only (LL.tells Look′.the-type Look″.the-laws l (w-l ∷ []) l-was)) refl $ assigns ! (of-opd ! (load ! (from ! (fld ! {τ = tyBool} refl (stop !))) (look-in ! 44 (sub ! {τs = (tcons tyBool (tcons tyBool (tcons τ-Mark (tcons τ-State (tcons (tyInt w64) tnil)))))} 0 refl (whole !))))) (from ! (stop !)) (init ! 30 refl (bool-lawful 𝓤 H A W .typed (l .again) _ (LL.owed Look′.the-type Look″.the-laws l _ l-was .0) .0)) $ first ! $ branches ! (load ! (from ! (stop !)) (look ! 30 refl))
+        nothing ! $ use1 W (raw (Callee-look-at 𝓤 H A at-mem run-of .pre to-look-at)) (goes-look-at v-run-is) $ calls-at ! fm (Callee-look-at 𝓤 H A at-mem run-of) known-look-at to-look-at (and-then ! (load ! (from ! (stop !)) (look ! 41 refl)) (and-then ! (load ! (from ! (stop !)) (look ! 39 refl)) (and-then ! (load ! (from ! (stop !)) (look ! 37 refl)) (and-then ! (load ! (from ! (stop !)) (look ! 35 refl)) (and-then ! (load ! (from ! (stop !)) (look ! 33 refl)) (and-then ! (load ! (from ! (stop !)) (look ! 51 refl)) (and-then ! (load ! (from ! (stop !)) (look ! 49 refl)) (and-then ! (load ! (from ! (stop !)) (look ! 47 refl)) (and-then ! (load ! (from ! (stop !)) (look ! 31 refl)) (no-more !)))))))))) (λ w-l.
+        use1 W (later (some (λ (l : Look). ((‵ ftrue) ⊛ ‵ (Look′.the-row .own l (w-l ∷ []))) ⊛ raw (ensured 𝓤 H A g-look-at.ended (g-look-at.clauses 𝓤 H A at-mem run-of) tt ((v-run .mark), ((v-run .body .plan), ((v-run .body .track), ((v-run .body .trial), ((v-run .body .«startup_iters»), (v-number, (v-a, (v-from, ((length v-out), tt))))))))) tt l)))) (id⊢ 𝓤 _) $ await ! tt $ pick ! (λ l. split ! $ move ! (1 ∷ []) $ use1 W (some (λ (zs : Unit {0} × (Unit {0} × (Unit {0} × (Unit {0} × (Unit {0} × (Unit {0} × (Unit {0} × (Unit {0} × (Unit {0} × (Unit {0})))))))))). ‵ (lasts g-look-at.ended tt ((v-run .mark), ((v-run .body .plan), ((v-run .body .track), ((v-run .body .trial), ((v-run .body .«startup_iters»), (v-number, (v-a, (v-from, ((length v-out), tt))))))))) zs) ⊛ raw (fact 𝓤 (l ≡ lookedAt (v-run .mark) (v-run .body .plan) (v-run .body .track) (v-run .body .trial) (v-run .body .«startup_iters») v-number v-a v-from (length v-out))))) (id⊢ 𝓤 _) $ pick ! (λ zs-l. split ! $ move ! (1 ∷ []) $ heard ! (l ≡ lookedAt (v-run .mark) (v-run .body .plan) (v-run .body .track) (v-run .body .trial) (v-run .body .«startup_iters») v-number v-a v-from (length v-out)) (λ e-l. fsplit ! $ drop ! $ fsplit ! $ drop ! $ fsplit ! $ drop ! $ fsplit ! $ drop ! $ fsplit ! $ drop ! $ fsplit ! $ drop ! $ fsplit ! $ drop ! $ fsplit ! $ drop ! $ fsplit ! $ drop ! $ move ! (1 ∷ []) $ split ! $ move ! (1 ∷ []) $ peeks ! Look′.the-row (Is Look′.the-row) (shows 𝓤 H A Look′.the-row) l (w-l ∷ []) (λ l-was. land ! (from ! (stop !)) (init ! 45 refl (LL.lawful Look′.the-type Look″.the-laws 𝓤 H A W .typed l _ l-was .0)) $ rewrite ! 45 (λ (u : Val). ‵ (fat fullShare Look″.mir l-6 0 u)) (ap only (LL.tells Look′.the-type Look″.the-laws l (w-l ∷ []) l-was)) refl $ assigns ! (of-opd ! (load ! (from ! (fld ! {τ = tyBool} refl (stop !))) (look-in ! 45 (sub ! {τs = (tcons tyBool (tcons tyBool (tcons τ-Mark (tcons τ-State (tcons (tyInt w64) tnil)))))} 0 refl (whole !))))) (from ! (stop !)) (init ! 31 refl (bool-lawful 𝓤 H A W .typed (l .again) _ (LL.owed Look′.the-type Look″.the-laws l _ l-was .0) .0)) $ first ! $ branches ! (load ! (from ! (stop !)) (look ! 31 refl))
         -- try_again
-        (λ yes. assigns ! (addr ! (from ! (hop ! (look ! 52 refl) (stop !)))) (from ! (stop !)) (init ! 28 refl (tt, tt)) $ assigns ! (addr ! (from ! (fld ! refl (hop ! (look-in ! 46 (sub ! 0 refl (whole !))) (stop !))))) (from ! (stop !)) (init ! 26 refl (tt, tt)) $ assigns ! (agg ! (and-then ! (load ! (from ! (stop !)) (look ! 26 refl)) (and-then ! (load ! (from ! (fld ! refl (stop !))) (look-in ! 46 (sub ! 1 refl (whole !)))) (no-more !)))) (from ! (stop !)) (init ! 24 refl (tt, (tt, (record { fits = v-out-room .0 }, tt)))) $ move ! (3 ∷ 4 ∷ []) $ feqI ! (List Val) ((vptr b-v-run o-v-run) ∷ []) ((vptr b-v-run o-v-run) ∷ []) refl $ fjoin3 ! $ move ! (7 ∷ []) $ move ! (1 ∷ 0 ∷ []) $ join ! $ move ! (5 ∷ 0 ∷ []) $ join ! $ move ! (4 ∷ 0 ∷ []) $ join ! $ use1 W (raw (Callee-try-again 𝓤 H A at-mem run-of .pre (to-try-again l))) (goes-try-again l (subst (Is Look′.the-row l) (LL.tells Look′.the-type Look″.the-laws l (w-l ∷ []) l-was) l-was)) $ calls-at ! fm (Callee-try-again 𝓤 H A at-mem run-of) known-try-again (to-try-again l) (and-then ! (load ! (from ! (stop !)) (look ! 24 refl)) (and-then ! (load ! (from ! (stop !)) (look ! 40 refl)) (and-then ! (load ! (from ! (stop !)) (look ! 20 refl)) (no-more !)))) (λ w.
-        use1 W (later (some (λ (r : Reply). ((‵ (flft κ-v-run q-v-run) ⊛ ‵ (flft κ-v-out q-v-out) ⊛ ‵ ftrue) ⊛ ‵ (Reply′.the-row .own r (w ∷ []))) ⊛ raw (ensured 𝓤 H A g-try-again.ended (g-try-again.clauses 𝓤 H A at-mem run-of) (κ-v-run, (κ-v-out, tt)) (x-v-run, (l, (x-v-out, tt))) tt r)))) (id⊢ 𝓤 _) $ await ! tt $ pick ! (λ r. split ! $ move ! (1 ∷ []) $ use1 W (some (λ (zs : Run × (Unit {0} × (List Float × (Unit {0})))). ‵ (lasts g-try-again.ended (κ-v-run, (κ-v-out, tt)) (x-v-run, (l, (x-v-out, tt))) zs) ⊛ raw (fact 𝓤 ((r ≡ triedReply l (v-run .body .plan) (v-run .body .track) (v-run .body .trial) .reply) × ((zs .0) ≡ triedRun (v-run) (triedReply l (v-run .body .plan) (v-run .body .track) (v-run .body .trial))) × ((zs .1 .1 .0) ≡ v-out))))) (id⊢ 𝓤 _) $ pick ! (λ zs. split ! $ move ! (1 ∷ []) $ heard ! ((r ≡ triedReply l (v-run .body .plan) (v-run .body .track) (v-run .body .trial) .reply) × ((zs .0) ≡ triedRun (v-run) (triedReply l (v-run .body .plan) (v-run .body .track) (v-run .body .trial))) × ((zs .1 .1 .0) ≡ v-out)) (λ e. fsplit ! $ move ! (1 ∷ []) $ fsplit ! $ drop ! $ fsplit ! $ fsplit ! $ move ! (1 ∷ []) $ feqL ! (λ l-v-out. move ! (3 ∷ []) $ split ! $ split ! $ move ! (1 ∷ []) $ split ! $ move ! (3 ∷ []) $ peeks ! Reply′.the-row (Is Reply′.the-row) (shows 𝓤 H A Reply′.the-row) r (w ∷ []) (λ is. land ! (from ! (stop !)) (init ! 56 refl (LL.lawful Reply′.the-type Reply″.the-laws 𝓤 H A W .typed r _ is .0)) $ rewrite ! 56 (λ (u : Val). ‵ (fat fullShare Reply″.mir l-0 0 u)) (ap only (LL.tells Reply′.the-type Reply″.the-laws r (w ∷ []) is)) refl $ returns-within ! Post refl (look ! 56 refl) $ forget ! 26 refl $ forget ! 28 refl $ forget ! 30 refl $ forget ! 32 refl $ forget ! 34 refl $ forget ! 36 refl $ forget ! 38 refl $ forget ! 40 refl $ forget ! 42 refl $ forget ! 44 refl $ forget ! 46 refl $ forget ! 48 refl $ forget ! 50 refl $ forget ! 52 refl $ forget ! 54 refl $ forget ! 56 refl $ move ! (56 ∷ 57 ∷ []) $ free1 ! $ move ! (54 ∷ 55 ∷ []) $ free1 ! $ move ! (52 ∷ 53 ∷ []) $ free1 ! $ move ! (50 ∷ 51 ∷ []) $ free1 ! $ move ! (48 ∷ 49 ∷ []) $ free1 ! $ move ! (46 ∷ 47 ∷ []) $ free1 ! $ move ! (44 ∷ 45 ∷ []) $ free1 ! $ move ! (42 ∷ 43 ∷ []) $ free1 ! $ move ! (40 ∷ 41 ∷ []) $ free1 ! $ move ! (38 ∷ 39 ∷ []) $ free1 ! $ move ! (36 ∷ 37 ∷ []) $ free1 ! $ move ! (34 ∷ 35 ∷ []) $ free1 ! $ move ! (32 ∷ 33 ∷ []) $ free1 ! $ move ! (30 ∷ 31 ∷ []) $ free1 ! $ move ! (28 ∷ 29 ∷ []) $ free1 ! $ move ! (26 ∷ 27 ∷ []) $ free1 ! $ move ! (24 ∷ 25 ∷ []) $ free1 ! $ move ! (22 ∷ 23 ∷ []) $ free1 ! $ move ! (20 ∷ 21 ∷ []) $ free1 ! $ move ! (18 ∷ 19 ∷ []) $ free1 ! $ move ! (16 ∷ 17 ∷ []) $ free1 ! $ move ! (14 ∷ 15 ∷ []) $ free1 ! $ free0 ! $ keep ! (3 ∷ 1 ∷ 6 ∷ 4 ∷ []) $ by ! (exits r (zs .0) (zs .1 .1 .0) (e .0 ∙ again-reply v-run v-number v-a v-out l e-l (holds _ yes) .0, e .1 ∙ again-reply v-run v-number v-a v-out l e-l (holds _ yes) .1, e .2 ∙ again-reply v-run v-number v-a v-out l e-l (holds _ yes) .2) l-v-out (subst (Is Reply′.the-row r) (LL.tells Reply′.the-type Reply″.the-laws r (w ∷ []) is) is)))))))))
+        (λ yes. assigns ! (addr ! (from ! (hop ! (look ! 55 refl) (stop !)))) (from ! (stop !)) (init ! 29 refl (tt, tt)) $ assigns ! (addr ! (from ! (fld ! refl (hop ! (look-in ! 47 (sub ! 0 refl (whole !))) (stop !))))) (from ! (stop !)) (init ! 27 refl (tt, tt)) $ assigns ! (agg ! (and-then ! (load ! (from ! (stop !)) (look ! 27 refl)) (and-then ! (load ! (from ! (fld ! refl (stop !))) (look-in ! 47 (sub ! 1 refl (whole !)))) (no-more !)))) (from ! (stop !)) (init ! 25 refl (tt, (tt, (record { fits = v-out-room .0 }, tt)))) $ move ! (3 ∷ 4 ∷ []) $ feqI ! (List Val) ((vptr b-v-run o-v-run) ∷ []) ((vptr b-v-run o-v-run) ∷ []) refl $ fjoin3 ! $ move ! (7 ∷ []) $ move ! (1 ∷ 0 ∷ []) $ join ! $ move ! (5 ∷ 0 ∷ []) $ join ! $ move ! (4 ∷ 0 ∷ []) $ join ! $ use1 W (raw (Callee-try-again 𝓤 H A at-mem run-of .pre (to-try-again l))) (goes-try-again l (subst (Is Look′.the-row l) (LL.tells Look′.the-type Look″.the-laws l (w-l ∷ []) l-was) l-was)) $ calls-at ! fm (Callee-try-again 𝓤 H A at-mem run-of) known-try-again (to-try-again l) (and-then ! (load ! (from ! (stop !)) (look ! 25 refl)) (and-then ! (load ! (from ! (stop !)) (look ! 41 refl)) (and-then ! (load ! (from ! (stop !)) (look ! 21 refl)) (no-more !)))) (λ w.
+        use1 W (later (some (λ (r : Reply). ((‵ (flft κ-v-run q-v-run) ⊛ ‵ (flft κ-v-out q-v-out) ⊛ ‵ ftrue) ⊛ ‵ (Reply′.the-row .own r (w ∷ []))) ⊛ raw (ensured 𝓤 H A g-try-again.ended (g-try-again.clauses 𝓤 H A at-mem run-of) (κ-v-run, (κ-v-out, tt)) (x-v-run, (l, (x-v-out, tt))) tt r)))) (id⊢ 𝓤 _) $ await ! tt $ pick ! (λ r. split ! $ move ! (1 ∷ []) $ use1 W (some (λ (zs : Run × (Unit {0} × (List Float × (Unit {0})))). ‵ (lasts g-try-again.ended (κ-v-run, (κ-v-out, tt)) (x-v-run, (l, (x-v-out, tt))) zs) ⊛ raw (fact 𝓤 ((r ≡ triedReply l (v-run .body .plan) (v-run .body .track) (v-run .body .trial) .reply) × ((zs .0) ≡ triedRun (v-run) (triedReply l (v-run .body .plan) (v-run .body .track) (v-run .body .trial))) × ((zs .1 .1 .0) ≡ v-out))))) (id⊢ 𝓤 _) $ pick ! (λ zs. split ! $ move ! (1 ∷ []) $ heard ! ((r ≡ triedReply l (v-run .body .plan) (v-run .body .track) (v-run .body .trial) .reply) × ((zs .0) ≡ triedRun (v-run) (triedReply l (v-run .body .plan) (v-run .body .track) (v-run .body .trial))) × ((zs .1 .1 .0) ≡ v-out)) (λ e. fsplit ! $ move ! (1 ∷ []) $ fsplit ! $ drop ! $ fsplit ! $ fsplit ! $ move ! (1 ∷ []) $ feqL ! (λ l-v-out. move ! (3 ∷ []) $ split ! $ split ! $ move ! (1 ∷ []) $ split ! $ move ! (3 ∷ []) $ peeks ! Reply′.the-row (Is Reply′.the-row) (shows 𝓤 H A Reply′.the-row) r (w ∷ []) (λ is. land ! (from ! (stop !)) (init ! 59 refl (LL.lawful Reply′.the-type Reply″.the-laws 𝓤 H A W .typed r _ is .0)) $ rewrite ! 59 (λ (u : Val). ‵ (fat fullShare Reply″.mir l-0 0 u)) (ap only (LL.tells Reply′.the-type Reply″.the-laws r (w ∷ []) is)) refl $ returns-within ! Post refl (look ! 59 refl) $ forget ! 27 refl $ forget ! 29 refl $ forget ! 31 refl $ forget ! 33 refl $ forget ! 35 refl $ forget ! 37 refl $ forget ! 39 refl $ forget ! 41 refl $ forget ! 43 refl $ forget ! 45 refl $ forget ! 47 refl $ forget ! 49 refl $ forget ! 51 refl $ forget ! 53 refl $ forget ! 55 refl $ forget ! 57 refl $ forget ! 59 refl $ move ! (59 ∷ 60 ∷ []) $ free1 ! $ move ! (57 ∷ 58 ∷ []) $ free1 ! $ move ! (55 ∷ 56 ∷ []) $ free1 ! $ move ! (53 ∷ 54 ∷ []) $ free1 ! $ move ! (51 ∷ 52 ∷ []) $ free1 ! $ move ! (49 ∷ 50 ∷ []) $ free1 ! $ move ! (47 ∷ 48 ∷ []) $ free1 ! $ move ! (45 ∷ 46 ∷ []) $ free1 ! $ move ! (43 ∷ 44 ∷ []) $ free1 ! $ move ! (41 ∷ 42 ∷ []) $ free1 ! $ move ! (39 ∷ 40 ∷ []) $ free1 ! $ move ! (37 ∷ 38 ∷ []) $ free1 ! $ move ! (35 ∷ 36 ∷ []) $ free1 ! $ move ! (33 ∷ 34 ∷ []) $ free1 ! $ move ! (31 ∷ 32 ∷ []) $ free1 ! $ move ! (29 ∷ 30 ∷ []) $ free1 ! $ move ! (27 ∷ 28 ∷ []) $ free1 ! $ move ! (25 ∷ 26 ∷ []) $ free1 ! $ move ! (23 ∷ 24 ∷ []) $ free1 ! $ move ! (21 ∷ 22 ∷ []) $ free1 ! $ move ! (19 ∷ 20 ∷ []) $ free1 ! $ move ! (17 ∷ 18 ∷ []) $ free1 ! $ move ! (15 ∷ 16 ∷ []) $ free1 ! $ free0 ! $ keep ! (3 ∷ 1 ∷ 6 ∷ 4 ∷ []) $ by ! (exits r (zs .0) (zs .1 .1 .0) (e .0 ∙ again-reply v-run v-number v-a v-from v-out l e-l (holds _ yes) .0, e .1 ∙ again-reply v-run v-number v-a v-from v-out l e-l (holds _ yes) .1, e .2 ∙ again-reply v-run v-number v-a v-from v-out l e-l (holds _ yes) .2) l-v-out (subst (Is Reply′.the-row r) (LL.tells Reply′.the-type Reply″.the-laws r (w ∷ []) is) is)))))))))
         -- else
-        (λ no. skips ! $ exec ! C Λ (En l-0 l-1 l-2 l-3 l-4 l-5 l-6 l-7 l-8 l-9 l-10 l-11 l-12 l-13 l-14 l-15 l-16 l-17 l-18 l-19 l-20 l-21) rest-1 (atRet (En l-0 l-1 l-2 l-3 l-4 l-5 l-6 l-7 l-8 l-9 l-10 l-11 l-12 l-13 l-14 l-15 l-16 l-17 l-18 l-19 l-20 l-21) Post) $ assigns ! (of-opd ! (load ! (from ! (fld ! {τ = tyBool} refl (stop !))) (look-in ! 44 (sub ! {τs = (tcons tyBool (tcons tyBool (tcons τ-Mark (tcons τ-State (tcons (tyInt w64) tnil)))))} 1 refl (whole !))))) (from ! (stop !)) (store ! 30 refl (bool-lawful 𝓤 H A W .typed (l .on) _ (LL.owed Look′.the-type Look″.the-laws l _ l-was .1 .0) .0)) $ first ! $ branches ! (load ! (from ! (stop !)) (look ! 30 refl))
+        (λ no. skips ! $ exec ! C Λ (En l-0 l-1 l-2 l-3 l-4 l-5 l-6 l-7 l-8 l-9 l-10 l-11 l-12 l-13 l-14 l-15 l-16 l-17 l-18 l-19 l-20 l-21 l-22) rest-1 (atRet (En l-0 l-1 l-2 l-3 l-4 l-5 l-6 l-7 l-8 l-9 l-10 l-11 l-12 l-13 l-14 l-15 l-16 l-17 l-18 l-19 l-20 l-21 l-22) Post) $ assigns ! (of-opd ! (load ! (from ! (fld ! {τ = tyBool} refl (stop !))) (look-in ! 45 (sub ! {τs = (tcons tyBool (tcons tyBool (tcons τ-Mark (tcons τ-State (tcons (tyInt w64) tnil)))))} 1 refl (whole !))))) (from ! (stop !)) (store ! 31 refl (bool-lawful 𝓤 H A W .typed (l .on) _ (LL.owed Look′.the-type Look″.the-laws l _ l-was .1 .0) .0)) $ first ! $ branches ! (load ! (from ! (stop !)) (look ! 31 refl))
         -- step_on
-        (λ yes. assigns ! (addr ! (from ! (hop ! (look ! 52 refl) (stop !)))) (from ! (stop !)) (init ! 22 refl (tt, tt)) $ assigns ! (addr ! (from ! (fld ! refl (hop ! (look-in ! 46 (sub ! 0 refl (whole !))) (stop !))))) (from ! (stop !)) (init ! 20 refl (tt, tt)) $ assigns ! (agg ! (and-then ! (load ! (from ! (stop !)) (look ! 20 refl)) (and-then ! (load ! (from ! (fld ! refl (stop !))) (look-in ! 46 (sub ! 1 refl (whole !)))) (no-more !)))) (from ! (stop !)) (init ! 18 refl (tt, (tt, (record { fits = v-out-room .0 }, tt)))) $ move ! (3 ∷ 4 ∷ []) $ feqI ! (List Val) ((vptr b-v-run o-v-run) ∷ []) ((vptr b-v-run o-v-run) ∷ []) refl $ fjoin3 ! $ move ! (7 ∷ []) $ move ! (1 ∷ 0 ∷ []) $ join ! $ move ! (5 ∷ 0 ∷ []) $ join ! $ move ! (4 ∷ 0 ∷ []) $ join ! $ use1 W (raw (Callee-step-on 𝓤 H A at-mem run-of .pre (to-step-on l))) (goes-step-on l (subst (Is Look′.the-row l) (LL.tells Look′.the-type Look″.the-laws l (w-l ∷ []) l-was) l-was)) $ calls-at ! fm (Callee-step-on 𝓤 H A at-mem run-of) known-step-on (to-step-on l) (and-then ! (load ! (from ! (stop !)) (look ! 18 refl)) (and-then ! (load ! (from ! (stop !)) (look ! 40 refl)) (and-then ! (load ! (from ! (stop !)) (look ! 44 refl)) (and-then ! (load ! (from ! (stop !)) (look ! 14 refl)) (no-more !))))) (λ w.
-        use1 W (later (some (λ (r : Reply). ((‵ (flft κ-v-run q-v-run) ⊛ ‵ (flft κ-v-out q-v-out) ⊛ ‵ ftrue) ⊛ ‵ (Reply′.the-row .own r (w ∷ []))) ⊛ raw (ensured 𝓤 H A g-step-on.ended (g-step-on.clauses 𝓤 H A at-mem run-of) (κ-v-run, (κ-v-out, tt)) (x-v-run, (l, (v-a, (x-v-out, tt)))) tt r)))) (id⊢ 𝓤 _) $ await ! tt $ pick ! (λ r. split ! $ move ! (1 ∷ []) $ use1 W (some (λ (zs : Run × (Unit {0} × (Unit {0} × (List Float × (Unit {0}))))). ‵ (lasts g-step-on.ended (κ-v-run, (κ-v-out, tt)) (x-v-run, (l, (v-a, (x-v-out, tt)))) zs) ⊛ raw (fact 𝓤 ((r ≡ steppedReply l (v-run .body .plan) (v-run .body .track) (v-run .body .a) v-a .reply) × ((zs .0) ≡ steppedRun (v-run) (steppedReply l (v-run .body .plan) (v-run .body .track) (v-run .body .a) v-a)) × ((zs .1 .1 .1 .0) ≡ keptStep l (v-run .body .plan) (v-run .body .track) (v-run .body .a) v-a (v-out)))))) (id⊢ 𝓤 _) $ pick ! (λ zs. split ! $ move ! (1 ∷ []) $ heard ! ((r ≡ steppedReply l (v-run .body .plan) (v-run .body .track) (v-run .body .a) v-a .reply) × ((zs .0) ≡ steppedRun (v-run) (steppedReply l (v-run .body .plan) (v-run .body .track) (v-run .body .a) v-a)) × ((zs .1 .1 .1 .0) ≡ keptStep l (v-run .body .plan) (v-run .body .track) (v-run .body .a) v-a (v-out))) (λ e. fsplit ! $ move ! (1 ∷ []) $ fsplit ! $ drop ! $ fsplit ! $ drop ! $ fsplit ! $ fsplit ! $ move ! (1 ∷ []) $ feqL ! (λ l-v-out. move ! (3 ∷ []) $ split ! $ split ! $ move ! (1 ∷ []) $ split ! $ move ! (3 ∷ []) $ peeks ! Reply′.the-row (Is Reply′.the-row) (shows 𝓤 H A Reply′.the-row) r (w ∷ []) (λ is. land ! (from ! (stop !)) (init ! 56 refl (LL.lawful Reply′.the-type Reply″.the-laws 𝓤 H A W .typed r _ is .0)) $ rewrite ! 56 (λ (u : Val). ‵ (fat fullShare Reply″.mir l-0 0 u)) (ap only (LL.tells Reply′.the-type Reply″.the-laws r (w ∷ []) is)) refl $ returns-within ! Post refl (look ! 56 refl) $ forget ! 20 refl $ forget ! 22 refl $ forget ! 24 refl $ forget ! 32 refl $ forget ! 34 refl $ forget ! 36 refl $ forget ! 38 refl $ forget ! 40 refl $ forget ! 42 refl $ forget ! 44 refl $ forget ! 46 refl $ forget ! 48 refl $ forget ! 50 refl $ forget ! 52 refl $ forget ! 54 refl $ forget ! 56 refl $ move ! (56 ∷ 57 ∷ []) $ free1 ! $ move ! (54 ∷ 55 ∷ []) $ free1 ! $ move ! (52 ∷ 53 ∷ []) $ free1 ! $ move ! (50 ∷ 51 ∷ []) $ free1 ! $ move ! (48 ∷ 49 ∷ []) $ free1 ! $ move ! (46 ∷ 47 ∷ []) $ free1 ! $ move ! (44 ∷ 45 ∷ []) $ free1 ! $ move ! (42 ∷ 43 ∷ []) $ free1 ! $ move ! (40 ∷ 41 ∷ []) $ free1 ! $ move ! (38 ∷ 39 ∷ []) $ free1 ! $ move ! (36 ∷ 37 ∷ []) $ free1 ! $ move ! (34 ∷ 35 ∷ []) $ free1 ! $ move ! (32 ∷ 33 ∷ []) $ free1 ! $ move ! (30 ∷ 31 ∷ []) $ free1 ! $ move ! (28 ∷ 29 ∷ []) $ free1 ! $ move ! (26 ∷ 27 ∷ []) $ free1 ! $ move ! (24 ∷ 25 ∷ []) $ free1 ! $ move ! (22 ∷ 23 ∷ []) $ free1 ! $ move ! (20 ∷ 21 ∷ []) $ free1 ! $ move ! (18 ∷ 19 ∷ []) $ free1 ! $ move ! (16 ∷ 17 ∷ []) $ free1 ! $ move ! (14 ∷ 15 ∷ []) $ free1 ! $ free0 ! $ keep ! (3 ∷ 1 ∷ 6 ∷ 4 ∷ []) $ by ! (exits r (zs .0) (zs .1 .1 .1 .0) (e .0 ∙ on-reply v-run v-number v-a v-out l e-l (holds _ yes) .0, e .1 ∙ on-reply v-run v-number v-a v-out l e-l (holds _ yes) .1, e .2 ∙ on-reply v-run v-number v-a v-out l e-l (holds _ yes) .2) l-v-out (subst (Is Reply′.the-row r) (LL.tells Reply′.the-type Reply″.the-laws r (w ∷ []) is) is)))))))))
+        (λ yes. assigns ! (addr ! (from ! (hop ! (look ! 55 refl) (stop !)))) (from ! (stop !)) (init ! 23 refl (tt, tt)) $ assigns ! (addr ! (from ! (fld ! refl (hop ! (look-in ! 47 (sub ! 0 refl (whole !))) (stop !))))) (from ! (stop !)) (init ! 21 refl (tt, tt)) $ assigns ! (agg ! (and-then ! (load ! (from ! (stop !)) (look ! 21 refl)) (and-then ! (load ! (from ! (fld ! refl (stop !))) (look-in ! 47 (sub ! 1 refl (whole !)))) (no-more !)))) (from ! (stop !)) (init ! 19 refl (tt, (tt, (record { fits = v-out-room .0 }, tt)))) $ move ! (3 ∷ 4 ∷ []) $ feqI ! (List Val) ((vptr b-v-run o-v-run) ∷ []) ((vptr b-v-run o-v-run) ∷ []) refl $ fjoin3 ! $ move ! (7 ∷ []) $ move ! (1 ∷ 0 ∷ []) $ join ! $ move ! (5 ∷ 0 ∷ []) $ join ! $ move ! (4 ∷ 0 ∷ []) $ join ! $ use1 W (raw (Callee-step-on 𝓤 H A at-mem run-of .pre (to-step-on l))) (goes-step-on l (subst (Is Look′.the-row l) (LL.tells Look′.the-type Look″.the-laws l (w-l ∷ []) l-was) l-was)) $ calls-at ! fm (Callee-step-on 𝓤 H A at-mem run-of) known-step-on (to-step-on l) (and-then ! (load ! (from ! (stop !)) (look ! 19 refl)) (and-then ! (load ! (from ! (stop !)) (look ! 41 refl)) (and-then ! (load ! (from ! (stop !)) (look ! 47 refl)) (and-then ! (load ! (from ! (stop !)) (look ! 45 refl)) (and-then ! (load ! (from ! (stop !)) (look ! 15 refl)) (no-more !)))))) (λ w.
+        use1 W (later (some (λ (r : Reply). ((‵ (flft κ-v-run q-v-run) ⊛ ‵ (flft κ-v-out q-v-out) ⊛ ‵ ftrue) ⊛ ‵ (Reply′.the-row .own r (w ∷ []))) ⊛ raw (ensured 𝓤 H A g-step-on.ended (g-step-on.clauses 𝓤 H A at-mem run-of) (κ-v-run, (κ-v-out, tt)) (x-v-run, (l, (v-a, (v-from, (x-v-out, tt))))) tt r)))) (id⊢ 𝓤 _) $ await ! tt $ pick ! (λ r. split ! $ move ! (1 ∷ []) $ use1 W (some (λ (zs : Run × (Unit {0} × (Unit {0} × (Unit {0} × (List Float × (Unit {0})))))). ‵ (lasts g-step-on.ended (κ-v-run, (κ-v-out, tt)) (x-v-run, (l, (v-a, (v-from, (x-v-out, tt))))) zs) ⊛ raw (fact 𝓤 ((r ≡ steppedReply l (v-run .body .plan) (v-run .body .track) (v-run .body .a) v-a .reply) × ((zs .0) ≡ steppedRun (v-run) (steppedReply l (v-run .body .plan) (v-run .body .track) (v-run .body .a) v-a)) × ((zs .1 .1 .1 .1 .0) ≡ keptStep l (v-run .body .plan) (v-run .body .track) (v-run .body .a) v-a v-from (v-out)))))) (id⊢ 𝓤 _) $ pick ! (λ zs. split ! $ move ! (1 ∷ []) $ heard ! ((r ≡ steppedReply l (v-run .body .plan) (v-run .body .track) (v-run .body .a) v-a .reply) × ((zs .0) ≡ steppedRun (v-run) (steppedReply l (v-run .body .plan) (v-run .body .track) (v-run .body .a) v-a)) × ((zs .1 .1 .1 .1 .0) ≡ keptStep l (v-run .body .plan) (v-run .body .track) (v-run .body .a) v-a v-from (v-out))) (λ e. fsplit ! $ move ! (1 ∷ []) $ fsplit ! $ drop ! $ fsplit ! $ drop ! $ fsplit ! $ drop ! $ fsplit ! $ fsplit ! $ move ! (1 ∷ []) $ feqL ! (λ l-v-out. move ! (3 ∷ []) $ split ! $ split ! $ move ! (1 ∷ []) $ split ! $ move ! (3 ∷ []) $ peeks ! Reply′.the-row (Is Reply′.the-row) (shows 𝓤 H A Reply′.the-row) r (w ∷ []) (λ is. land ! (from ! (stop !)) (init ! 59 refl (LL.lawful Reply′.the-type Reply″.the-laws 𝓤 H A W .typed r _ is .0)) $ rewrite ! 59 (λ (u : Val). ‵ (fat fullShare Reply″.mir l-0 0 u)) (ap only (LL.tells Reply′.the-type Reply″.the-laws r (w ∷ []) is)) refl $ returns-within ! Post refl (look ! 59 refl) $ forget ! 21 refl $ forget ! 23 refl $ forget ! 25 refl $ forget ! 33 refl $ forget ! 35 refl $ forget ! 37 refl $ forget ! 39 refl $ forget ! 41 refl $ forget ! 43 refl $ forget ! 45 refl $ forget ! 47 refl $ forget ! 49 refl $ forget ! 51 refl $ forget ! 53 refl $ forget ! 55 refl $ forget ! 57 refl $ forget ! 59 refl $ move ! (59 ∷ 60 ∷ []) $ free1 ! $ move ! (57 ∷ 58 ∷ []) $ free1 ! $ move ! (55 ∷ 56 ∷ []) $ free1 ! $ move ! (53 ∷ 54 ∷ []) $ free1 ! $ move ! (51 ∷ 52 ∷ []) $ free1 ! $ move ! (49 ∷ 50 ∷ []) $ free1 ! $ move ! (47 ∷ 48 ∷ []) $ free1 ! $ move ! (45 ∷ 46 ∷ []) $ free1 ! $ move ! (43 ∷ 44 ∷ []) $ free1 ! $ move ! (41 ∷ 42 ∷ []) $ free1 ! $ move ! (39 ∷ 40 ∷ []) $ free1 ! $ move ! (37 ∷ 38 ∷ []) $ free1 ! $ move ! (35 ∷ 36 ∷ []) $ free1 ! $ move ! (33 ∷ 34 ∷ []) $ free1 ! $ move ! (31 ∷ 32 ∷ []) $ free1 ! $ move ! (29 ∷ 30 ∷ []) $ free1 ! $ move ! (27 ∷ 28 ∷ []) $ free1 ! $ move ! (25 ∷ 26 ∷ []) $ free1 ! $ move ! (23 ∷ 24 ∷ []) $ free1 ! $ move ! (21 ∷ 22 ∷ []) $ free1 ! $ move ! (19 ∷ 20 ∷ []) $ free1 ! $ move ! (17 ∷ 18 ∷ []) $ free1 ! $ move ! (15 ∷ 16 ∷ []) $ free1 ! $ free0 ! $ keep ! (3 ∷ 1 ∷ 6 ∷ 4 ∷ []) $ by ! (exits r (zs .0) (zs .1 .1 .1 .1 .0) (e .0 ∙ on-reply v-run v-number v-a v-from v-out l e-l (holds _ yes) .0, e .1 ∙ on-reply v-run v-number v-a v-from v-out l e-l (holds _ yes) .1, e .2 ∙ on-reply v-run v-number v-a v-from v-out l e-l (holds _ yes) .2) l-v-out (subst (Is Reply′.the-row r) (LL.tells Reply′.the-type Reply″.the-laws r (w ∷ []) is) is)))))))))
         -- else
-        (λ no. skips ! $ exec ! C Λ (En l-0 l-1 l-2 l-3 l-4 l-5 l-6 l-7 l-8 l-9 l-10 l-11 l-12 l-13 l-14 l-15 l-16 l-17 l-18 l-19 l-20 l-21) rest-2 (atRet (En l-0 l-1 l-2 l-3 l-4 l-5 l-6 l-7 l-8 l-9 l-10 l-11 l-12 l-13 l-14 l-15 l-16 l-17 l-18 l-19 l-20 l-21) Post) $ assigns ! (addr ! (from ! (hop ! (look ! 52 refl) (stop !)))) (from ! (stop !)) (init ! 16 refl (tt, tt)) $ assigns ! (addr ! (from ! (fld ! refl (hop ! (look-in ! 46 (sub ! 0 refl (whole !))) (stop !))))) (from ! (stop !)) (init ! 14 refl (tt, tt)) $ assigns ! (agg ! (and-then ! (load ! (from ! (stop !)) (look ! 14 refl)) (and-then ! (load ! (from ! (fld ! refl (stop !))) (look-in ! 46 (sub ! 1 refl (whole !)))) (no-more !)))) (from ! (stop !)) (init ! 12 refl (tt, (tt, (record { fits = v-out-room .0 }, tt)))) $ move ! (3 ∷ 4 ∷ []) $ feqI ! (List Val) ((vptr b-v-run o-v-run) ∷ []) ((vptr b-v-run o-v-run) ∷ []) refl $ fjoin3 ! $ move ! (7 ∷ []) $ move ! (1 ∷ 0 ∷ []) $ join ! $ move ! (5 ∷ 0 ∷ []) $ join ! $ move ! (4 ∷ 0 ∷ []) $ join ! $ use1 W (raw (Callee-answer-plainly 𝓤 H A at-mem run-of .pre to-answer-plainly)) goes-answer-plainly $ calls-at ! fm (Callee-answer-plainly 𝓤 H A at-mem run-of) known-answer-plainly to-answer-plainly (and-then ! (load ! (from ! (stop !)) (look ! 12 refl)) (and-then ! (load ! (from ! (stop !)) (look ! 46 refl)) (and-then ! (load ! (from ! (stop !)) (look ! 44 refl)) (and-then ! (load ! (from ! (stop !)) (look ! 8 refl)) (no-more !))))) (λ w.
-        use1 W (later (some (λ (r : Reply). ((‵ (flft κ-v-run q-v-run) ⊛ ‵ (flft κ-v-out q-v-out) ⊛ ‵ ftrue) ⊛ ‵ (Reply′.the-row .own r (w ∷ []))) ⊛ raw (ensured 𝓤 H A g-answer-plainly.ended (g-answer-plainly.clauses 𝓤 H A at-mem run-of) (κ-v-run, (κ-v-out, tt)) (x-v-run, (v-number, (v-a, (x-v-out, tt)))) tt r)))) (id⊢ 𝓤 _) $ await ! tt $ pick ! (λ r. split ! $ move ! (1 ∷ []) $ use1 W (some (λ (zs : Run × (Unit {0} × (Unit {0} × (List Float × (Unit {0}))))). ‵ (lasts g-answer-plainly.ended (κ-v-run, (κ-v-out, tt)) (x-v-run, (v-number, (v-a, (x-v-out, tt)))) zs) ⊛ raw (fact 𝓤 ((r ≡ replyOf (answered (v-run) v-number v-a (v-out) .got .outcome)) × ((zs .0) ≡ answered (v-run) v-number v-a (v-out) .got .run) × ((zs .1 .1 .1 .0) ≡ answered (v-run) v-number v-a (v-out) .out))))) (id⊢ 𝓤 _) $ pick ! (λ zs. split ! $ move ! (1 ∷ []) $ heard ! ((r ≡ replyOf (answered (v-run) v-number v-a (v-out) .got .outcome)) × ((zs .0) ≡ answered (v-run) v-number v-a (v-out) .got .run) × ((zs .1 .1 .1 .0) ≡ answered (v-run) v-number v-a (v-out) .out)) (λ e. fsplit ! $ move ! (1 ∷ []) $ fsplit ! $ drop ! $ fsplit ! $ drop ! $ fsplit ! $ fsplit ! $ move ! (1 ∷ []) $ feqL ! (λ l-v-out. move ! (3 ∷ []) $ split ! $ split ! $ move ! (1 ∷ []) $ split ! $ move ! (3 ∷ []) $ peeks ! Reply′.the-row (Is Reply′.the-row) (shows 𝓤 H A Reply′.the-row) r (w ∷ []) (λ is. land ! (from ! (stop !)) (init ! 56 refl (LL.lawful Reply′.the-type Reply″.the-laws 𝓤 H A W .typed r _ is .0)) $ rewrite ! 56 (λ (u : Val). ‵ (fat fullShare Reply″.mir l-0 0 u)) (ap only (LL.tells Reply′.the-type Reply″.the-laws r (w ∷ []) is)) refl $ returns ! (look ! 56 refl) $ forget ! 14 refl $ forget ! 16 refl $ forget ! 18 refl $ forget ! 32 refl $ forget ! 34 refl $ forget ! 36 refl $ forget ! 38 refl $ forget ! 40 refl $ forget ! 42 refl $ forget ! 44 refl $ forget ! 46 refl $ forget ! 48 refl $ forget ! 50 refl $ forget ! 52 refl $ forget ! 54 refl $ forget ! 56 refl $ move ! (56 ∷ 57 ∷ []) $ free1 ! $ move ! (54 ∷ 55 ∷ []) $ free1 ! $ move ! (52 ∷ 53 ∷ []) $ free1 ! $ move ! (50 ∷ 51 ∷ []) $ free1 ! $ move ! (48 ∷ 49 ∷ []) $ free1 ! $ move ! (46 ∷ 47 ∷ []) $ free1 ! $ move ! (44 ∷ 45 ∷ []) $ free1 ! $ move ! (42 ∷ 43 ∷ []) $ free1 ! $ move ! (40 ∷ 41 ∷ []) $ free1 ! $ move ! (38 ∷ 39 ∷ []) $ free1 ! $ move ! (36 ∷ 37 ∷ []) $ free1 ! $ move ! (34 ∷ 35 ∷ []) $ free1 ! $ move ! (32 ∷ 33 ∷ []) $ free1 ! $ move ! (30 ∷ 31 ∷ []) $ free1 ! $ move ! (28 ∷ 29 ∷ []) $ free1 ! $ move ! (26 ∷ 27 ∷ []) $ free1 ! $ move ! (24 ∷ 25 ∷ []) $ free1 ! $ move ! (22 ∷ 23 ∷ []) $ free1 ! $ move ! (20 ∷ 21 ∷ []) $ free1 ! $ move ! (18 ∷ 19 ∷ []) $ free1 ! $ move ! (16 ∷ 17 ∷ []) $ free1 ! $ move ! (14 ∷ 15 ∷ []) $ free1 ! $ free0 ! $ keep ! (3 ∷ 1 ∷ 6 ∷ 4 ∷ []) $ by ! (exits r (zs .0) (zs .1 .1 .1 .0) e l-v-out (subst (Is Reply′.the-row r) (LL.tells Reply′.the-type Reply″.the-laws r (w ∷ []) is) is)))))))))))))))))))))))))))))))))))))))
+        (λ no. skips ! $ exec ! C Λ (En l-0 l-1 l-2 l-3 l-4 l-5 l-6 l-7 l-8 l-9 l-10 l-11 l-12 l-13 l-14 l-15 l-16 l-17 l-18 l-19 l-20 l-21 l-22) rest-2 (atRet (En l-0 l-1 l-2 l-3 l-4 l-5 l-6 l-7 l-8 l-9 l-10 l-11 l-12 l-13 l-14 l-15 l-16 l-17 l-18 l-19 l-20 l-21 l-22) Post) $ assigns ! (addr ! (from ! (hop ! (look ! 55 refl) (stop !)))) (from ! (stop !)) (init ! 17 refl (tt, tt)) $ assigns ! (addr ! (from ! (fld ! refl (hop ! (look-in ! 47 (sub ! 0 refl (whole !))) (stop !))))) (from ! (stop !)) (init ! 15 refl (tt, tt)) $ assigns ! (agg ! (and-then ! (load ! (from ! (stop !)) (look ! 15 refl)) (and-then ! (load ! (from ! (fld ! refl (stop !))) (look-in ! 47 (sub ! 1 refl (whole !)))) (no-more !)))) (from ! (stop !)) (init ! 13 refl (tt, (tt, (record { fits = v-out-room .0 }, tt)))) $ move ! (3 ∷ 4 ∷ []) $ feqI ! (List Val) ((vptr b-v-run o-v-run) ∷ []) ((vptr b-v-run o-v-run) ∷ []) refl $ fjoin3 ! $ move ! (7 ∷ []) $ move ! (1 ∷ 0 ∷ []) $ join ! $ move ! (5 ∷ 0 ∷ []) $ join ! $ move ! (4 ∷ 0 ∷ []) $ join ! $ use1 W (raw (Callee-answer-plainly 𝓤 H A at-mem run-of .pre to-answer-plainly)) goes-answer-plainly $ calls-at ! fm (Callee-answer-plainly 𝓤 H A at-mem run-of) known-answer-plainly to-answer-plainly (and-then ! (load ! (from ! (stop !)) (look ! 13 refl)) (and-then ! (load ! (from ! (stop !)) (look ! 49 refl)) (and-then ! (load ! (from ! (stop !)) (look ! 47 refl)) (and-then ! (load ! (from ! (stop !)) (look ! 45 refl)) (and-then ! (load ! (from ! (stop !)) (look ! 9 refl)) (no-more !)))))) (λ w.
+        use1 W (later (some (λ (r : Reply). ((‵ (flft κ-v-run q-v-run) ⊛ ‵ (flft κ-v-out q-v-out) ⊛ ‵ ftrue) ⊛ ‵ (Reply′.the-row .own r (w ∷ []))) ⊛ raw (ensured 𝓤 H A g-answer-plainly.ended (g-answer-plainly.clauses 𝓤 H A at-mem run-of) (κ-v-run, (κ-v-out, tt)) (x-v-run, (v-number, (v-a, (v-from, (x-v-out, tt))))) tt r)))) (id⊢ 𝓤 _) $ await ! tt $ pick ! (λ r. split ! $ move ! (1 ∷ []) $ use1 W (some (λ (zs : Run × (Unit {0} × (Unit {0} × (Unit {0} × (List Float × (Unit {0})))))). ‵ (lasts g-answer-plainly.ended (κ-v-run, (κ-v-out, tt)) (x-v-run, (v-number, (v-a, (v-from, (x-v-out, tt))))) zs) ⊛ raw (fact 𝓤 ((r ≡ answerReply (answered (v-run) v-number v-a (tens v-from (v-out)) .got)) × ((zs .0) ≡ answered (v-run) v-number v-a (tens v-from (v-out)) .got .run) × ((zs .1 .1 .1 .1 .0) ≡ numbersOf (answered (v-run) v-number v-a (tens v-from (v-out)) .out)))))) (id⊢ 𝓤 _) $ pick ! (λ zs. split ! $ move ! (1 ∷ []) $ heard ! ((r ≡ answerReply (answered (v-run) v-number v-a (tens v-from (v-out)) .got)) × ((zs .0) ≡ answered (v-run) v-number v-a (tens v-from (v-out)) .got .run) × ((zs .1 .1 .1 .1 .0) ≡ numbersOf (answered (v-run) v-number v-a (tens v-from (v-out)) .out))) (λ e. fsplit ! $ move ! (1 ∷ []) $ fsplit ! $ drop ! $ fsplit ! $ drop ! $ fsplit ! $ drop ! $ fsplit ! $ fsplit ! $ move ! (1 ∷ []) $ feqL ! (λ l-v-out. move ! (3 ∷ []) $ split ! $ split ! $ move ! (1 ∷ []) $ split ! $ move ! (3 ∷ []) $ peeks ! Reply′.the-row (Is Reply′.the-row) (shows 𝓤 H A Reply′.the-row) r (w ∷ []) (λ is. land ! (from ! (stop !)) (init ! 59 refl (LL.lawful Reply′.the-type Reply″.the-laws 𝓤 H A W .typed r _ is .0)) $ rewrite ! 59 (λ (u : Val). ‵ (fat fullShare Reply″.mir l-0 0 u)) (ap only (LL.tells Reply′.the-type Reply″.the-laws r (w ∷ []) is)) refl $ returns ! (look ! 59 refl) $ forget ! 15 refl $ forget ! 17 refl $ forget ! 19 refl $ forget ! 33 refl $ forget ! 35 refl $ forget ! 37 refl $ forget ! 39 refl $ forget ! 41 refl $ forget ! 43 refl $ forget ! 45 refl $ forget ! 47 refl $ forget ! 49 refl $ forget ! 51 refl $ forget ! 53 refl $ forget ! 55 refl $ forget ! 57 refl $ forget ! 59 refl $ move ! (59 ∷ 60 ∷ []) $ free1 ! $ move ! (57 ∷ 58 ∷ []) $ free1 ! $ move ! (55 ∷ 56 ∷ []) $ free1 ! $ move ! (53 ∷ 54 ∷ []) $ free1 ! $ move ! (51 ∷ 52 ∷ []) $ free1 ! $ move ! (49 ∷ 50 ∷ []) $ free1 ! $ move ! (47 ∷ 48 ∷ []) $ free1 ! $ move ! (45 ∷ 46 ∷ []) $ free1 ! $ move ! (43 ∷ 44 ∷ []) $ free1 ! $ move ! (41 ∷ 42 ∷ []) $ free1 ! $ move ! (39 ∷ 40 ∷ []) $ free1 ! $ move ! (37 ∷ 38 ∷ []) $ free1 ! $ move ! (35 ∷ 36 ∷ []) $ free1 ! $ move ! (33 ∷ 34 ∷ []) $ free1 ! $ move ! (31 ∷ 32 ∷ []) $ free1 ! $ move ! (29 ∷ 30 ∷ []) $ free1 ! $ move ! (27 ∷ 28 ∷ []) $ free1 ! $ move ! (25 ∷ 26 ∷ []) $ free1 ! $ move ! (23 ∷ 24 ∷ []) $ free1 ! $ move ! (21 ∷ 22 ∷ []) $ free1 ! $ move ! (19 ∷ 20 ∷ []) $ free1 ! $ move ! (17 ∷ 18 ∷ []) $ free1 ! $ move ! (15 ∷ 16 ∷ []) $ free1 ! $ free0 ! $ keep ! (3 ∷ 1 ∷ 6 ∷ 4 ∷ []) $ by ! (exits r (zs .0) (zs .1 .1 .1 .1 .0) e l-v-out (subst (Is Reply′.the-row r) (LL.tells Reply′.the-type Reply″.the-laws r (w ∷ []) is) is))))))))))))))))))))))))))))))))))))))))
 
 module _ {M : Type 1} (𝓤 : URA M) (H : Heap 𝓤) (A : Atoms 𝓤) (W : Given 𝓤 H A) (mem : Memory → SProp 𝓤) (run-of : Routine → Fun 𝓤) where
   walks : (C : Calls 𝓤 H) (Λ : Loops 𝓤 H) → FmC 𝓤 H (W .laws) C → Meeting 𝓤 (C #fastpath·look-at) (Callee-look-at 𝓤 H A mem run-of) → Meeting 𝓤 (C #app·lending·try-again) (Callee-try-again 𝓤 H A mem run-of) → Meeting 𝓤 (C #app·lending·step-on) (Callee-step-on 𝓤 H A mem run-of) → Meeting 𝓤 (C #app·lending·answer-plainly) (Callee-answer-plainly 𝓤 H A mem run-of) → Walks 𝓤 H A f.ended stayed (WpFn 𝓤 H C Λ walked-fn) (f.clauses 𝓤 H A mem run-of)
   walks C Λ fm known-look-at known-try-again known-step-on known-answer-plainly = walked 𝓤 H A f.ended stayed (f.clauses 𝓤 H A mem run-of) (WpFn 𝓤 H C Λ walked-fn)
-      (λ κs. (ptr-vals, (uint-vals w16, (LL.vals Triple′.the-type Triple″.the-laws, (slice-vals, tt))))) (λ κs. (mut-tells (named 0) (κs .0) Run′.the-row, (uint-tells w16, (LL.tells Triple′.the-type Triple″.the-laws, (mut-slice-tells (named 1) (κs .1 .0) f64, tt)))))
-      (λ κs qs bounds a _ are. via 𝓤 _ (fst∗ 𝓤 _ (emp 𝓤)) (walk 𝓤 H A W mem run-of (κs .0) (κs .1 .0) (qs .0) (qs .1 .0) (a .0 .ptr .0) (a .0 .ptr .1) (a .0 .name) (a .0 .now) (a .1 .0) (a .1 .1 .0) (a .1 .1 .1 .0 .ptr .0) (a .1 .1 .1 .0 .ptr .1) (a .1 .1 .1 .0 .name) (a .1 .1 .1 .0 .now) (are .1 .0) (are .1 .1 .0) (are .1 .1 .1 .0 .0 .1) C Λ fm known-look-at known-try-again known-step-on known-answer-plainly))
+      (λ κs. (ptr-vals, (uint-vals w16, (LL.vals Triple′.the-type Triple″.the-laws, (uint-vals w64, (slice-vals, tt)))))) (λ κs. (mut-tells (named 0) (κs .0) Run′.the-row, (uint-tells w16, (LL.tells Triple′.the-type Triple″.the-laws, (uint-tells w64, (mut-slice-tells (named 1) (κs .1 .0) f64, tt))))))
+      (λ κs qs bounds a _ are. via 𝓤 _ (fst∗ 𝓤 _ (emp 𝓤)) (walk 𝓤 H A W mem run-of (κs .0) (κs .1 .0) (qs .0) (qs .1 .0) (a .0 .ptr .0) (a .0 .ptr .1) (a .0 .name) (a .0 .now) (a .1 .0) (a .1 .1 .0) (a .1 .1 .1 .0) (a .1 .1 .1 .1 .0 .ptr .0) (a .1 .1 .1 .1 .0 .ptr .1) (a .1 .1 .1 .1 .0 .name) (a .1 .1 .1 .1 .0 .now) (are .1 .0) (are .1 .1 .0) (are .1 .1 .1 .0) (are .1 .1 .1 .1 .0 .0 .1) C Λ fm known-look-at known-try-again known-step-on known-answer-plainly))
 
   all-go : AllGo 𝓤 H A W 2 (f.signature .params) (f.ended .kept) stayed
-  all-go = (goes-gave-ref 𝓤 H A W 2 0 tt (plain (λ _. Run′.the-row)), (goes-none 𝓤 H A W 2 (λ _. u16) yes (λ κs x f. refl), (goes-none 𝓤 H A W 2 (λ _. Triple′.the-row) yes (λ κs x f. refl), (goes-gave-slice 𝓤 H A W 2 1 tt (plain (λ _. f64)), tt))))
+  all-go = (goes-gave-ref 𝓤 H A W 2 0 tt (plain (λ _. Run′.the-row)), (goes-none 𝓤 H A W 2 (λ _. u16) yes (λ κs x f. refl), (goes-none 𝓤 H A W 2 (λ _. Triple′.the-row) yes (λ κs x f. refl), (goes-none 𝓤 H A W 2 (λ _. u64) yes (λ κs x f. refl), (goes-gave-slice 𝓤 H A W 2 1 tt (plain (λ _. f64)), tt)))))
 
 meets : {M : Type 1} (𝓤 : URA M) (H : Heap 𝓤) (A : Atoms 𝓤) → Given 𝓤 H A → (mem : Memory → SProp 𝓤) (run-of : Routine → Fun 𝓤) (𝓣 : Tables 𝓤 H) → Meeting 𝓤 (𝓣 .C #fastpath·look-at) (Callee-look-at 𝓤 H A mem run-of) → Meeting 𝓤 (𝓣 .C #app·lending·try-again) (Callee-try-again 𝓤 H A mem run-of) → Meeting 𝓤 (𝓣 .C #app·lending·step-on) (Callee-step-on 𝓤 H A mem run-of) → Meeting 𝓤 (𝓣 .C #app·lending·answer-plainly) (Callee-answer-plainly 𝓤 H A mem run-of)
     → Meets 𝓤 H A f.signature (WpFn 𝓤 H (𝓣 .C) (𝓣 .Λ) walked-fn) (f.spec 𝓤 H A mem run-of)

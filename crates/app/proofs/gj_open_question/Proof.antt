@@ -108,7 +108,7 @@ module _ {M : Type 1} (𝓤 : URA M) (H : Heap 𝓤) (A : Atoms 𝓤) (W : Given
   goes v-run-is =
       qed W ((‵ ftrue) ∷ []) ∵ owned ! Run′.the-row (Is Run′.the-row) (LL.makes Run′.the-type Run″.the-plain 𝓤 H A) v-run _ v-run-is $ fjoin ! $ nothing ! $ join ! $ frame ! $ done !
 
-  exits : (r : Reply) → r ≡ replyOf (openQuestion v-run) → Is Reply′.the-row r ((LL.val Reply′.the-type Reply″.the-laws r) ∷ []) → ent 𝓤 (⋆ 𝓤 H A (‵ (flft κ-v-run q-v-run) ∷ ‵ (fres γ-v-run (Run′.the-row .coded .code v-run)) ∷ ‵ (fshr-bor κ-v-run (λ p. partAt Run′.the-row p v-run b-v-run o-v-run)) ∷ [])) (Post (LL.val Reply′.the-type Reply″.the-laws r))
+  exits : (r : Reply) → r ≡ replyOf (openQuestion v-run) 0 → Is Reply′.the-row r ((LL.val Reply′.the-type Reply″.the-laws r) ∷ []) → ent 𝓤 (⋆ 𝓤 H A (‵ (flft κ-v-run q-v-run) ∷ ‵ (fres γ-v-run (Run′.the-row .coded .code v-run)) ∷ ‵ (fshr-bor κ-v-run (λ p. partAt Run′.the-row p v-run b-v-run o-v-run)) ∷ [])) (Post (LL.val Reply′.the-type Reply″.the-laws r))
   exits r e is =
       qed W (‵ (flft κ-v-run q-v-run) ∷ ‵ (fres γ-v-run (Run′.the-row .coded .code v-run)) ∷ ‵ (fshr-bor κ-v-run (λ p. partAt Run′.the-row p v-run b-v-run o-v-run)) ∷ []) ∵
       suffices ! _ (ends-at 𝓤 H A f.ended stayed (f.clauses 𝓤 H A at-mem run-of) W (((κ-v-run, tt), (q-v-run, tt), tt, x, at), tt) (LL.val Reply′.the-type Reply″.the-laws r) r (tt, tt) (tt, tt)) $ says ! e $ nothing ! $ move ! (1 ∷ 0 ∷ []) $ join ! $ frame ! $ nothing ! $ move ! (1 ∷ 2 ∷ 0 ∷ []) $ feqI ! (List Val) ((vptr b-v-run o-v-run) ∷ []) ((vptr b-v-run o-v-run) ∷ []) refl $ fjoin3 ! $ fjoin ! $ owned ! Reply′.the-row (Is Reply′.the-row) (LL.makes Reply′.the-type Reply″.the-plain 𝓤 H A) r _ is $ move ! (1 ∷ 0 ∷ []) $ done !
@@ -126,7 +126,7 @@ module _ {M : Type 1} (𝓤 : URA M) (H : Heap 𝓤) (A : Atoms 𝓤) (W : Given
         move ! (2 ∷ []) $ fsplit3 ! $ drop ! $ move ! (1 ∷ 2 ∷ []) $ looks ! tt Run′.the-row (Is Run′.the-row) (shows 𝓤 H A Run′.the-row) (LL.vals Run′.the-type Run″.the-laws) (LL.tells Run′.the-type Run″.the-laws) (LL.copy Run′.the-type Run″.the-copy 𝓤 H A W) v-run b-v-run o-v-run (λ p us. spelt ! Run′.the-row (Is Run′.the-row) (shows 𝓤 H A Run′.the-row) (LL.vals Run′.the-type Run″.the-laws) (LL.tells Run′.the-type Run″.the-laws) p v-run us b-v-run o-v-run $ move ! (1 ∷ []) $ peeks ! Run′.the-row (Is Run′.the-row) (shows 𝓤 H A Run′.the-row) v-run ((LL.val Run′.the-type Run″.the-laws v-run) ∷ []) (λ v-run-is. move ! (1 ∷ 0 ∷ []) $ assigns ! (of-opd ! (load ! (from ! (hop ! (look ! 9 refl) (stop !))) (look-raw ! 0 refl))) (from ! (stop !)) (init ! 7 refl (LL.lawful Run′.the-type Run″.the-laws 𝓤 H A W .typed v-run _ v-run-is .0)) $ shuts ! tt Run′.the-row p v-run ((LL.val Run′.the-type Run″.the-laws v-run) ∷ []) b-v-run o-v-run $
         -- the call
         nothing ! $ use1 W (raw (Callee-open-in 𝓤 H A at-mem run-of .pre to-callee)) (goes v-run-is) $ calls-at ! fm (Callee-open-in 𝓤 H A at-mem run-of) known-open-in to-callee (and-then ! (load ! (from ! (stop !)) (look ! 6 refl)) (no-more !)) (λ w.
-        use1 W (later (some (λ (r : Reply). ((‵ ftrue) ⊛ ‵ (Reply′.the-row .own r (w ∷ []))) ⊛ raw (ensured 𝓤 H A g-open-in.ended (g-open-in.clauses 𝓤 H A at-mem run-of) tt (v-run, tt) tt r)))) (id⊢ 𝓤 _) $ await ! tt $ pick ! (λ r. split ! $ move ! (1 ∷ []) $ use1 W (some (λ (zs : Unit {0} × (Unit {0})). ‵ (lasts g-open-in.ended tt (v-run, tt) zs) ⊛ raw (fact 𝓤 (r ≡ replyOf (openQuestion v-run))))) (id⊢ 𝓤 _) $ pick ! (λ zs. split ! $ move ! (1 ∷ []) $ heard ! (r ≡ replyOf (openQuestion v-run)) (λ e. fsplit ! $ drop ! $ move ! (1 ∷ []) $ split ! $ move ! (1 ∷ []) $
+        use1 W (later (some (λ (r : Reply). ((‵ ftrue) ⊛ ‵ (Reply′.the-row .own r (w ∷ []))) ⊛ raw (ensured 𝓤 H A g-open-in.ended (g-open-in.clauses 𝓤 H A at-mem run-of) tt (v-run, tt) tt r)))) (id⊢ 𝓤 _) $ await ! tt $ pick ! (λ r. split ! $ move ! (1 ∷ []) $ use1 W (some (λ (zs : Unit {0} × (Unit {0})). ‵ (lasts g-open-in.ended tt (v-run, tt) zs) ⊛ raw (fact 𝓤 (r ≡ replyOf (openQuestion v-run) 0)))) (id⊢ 𝓤 _) $ pick ! (λ zs. split ! $ move ! (1 ∷ []) $ heard ! (r ≡ replyOf (openQuestion v-run) 0) (λ e. fsplit ! $ drop ! $ move ! (1 ∷ []) $ split ! $ move ! (1 ∷ []) $
         -- the result lands in its local, with its machine value written out
         peeks ! Reply′.the-row (Is Reply′.the-row) (shows 𝓤 H A Reply′.the-row) r (w ∷ []) (λ is. land ! (from ! (stop !)) (init ! 12 refl (LL.lawful Reply′.the-type Reply″.the-laws 𝓤 H A W .typed r _ is .0)) $ rewrite ! 12 (λ (u : Val). ‵ (fat fullShare Reply″.mir l-0 0 u)) (ap only (LL.tells Reply′.the-type Reply″.the-laws r (w ∷ []) is)) refl $
         -- the locals are freed
