@@ -22,7 +22,7 @@ fn play_on(q: Question, run: Run, force: Force, whole: bool, samples: &mut [f64]
         text::print_ask(q);
     }
     let told = force::answer(force, q.t, q.r, q.v);
-    let now = gauss_jackson::answer(run, q.number, told.a, samples);
+    let now = gauss_jackson::answer(run, q.number, told.a, 0, samples);
     let force = told.force;
     Playing { now, force }
 }
