@@ -1,5 +1,5 @@
 -- Which rooms have the samples due at each call: one for all of them, and one for the next five.
-use mathlib.Core.Path.{_≡_, refl, sym, subst, ap}
+use mathlib.Core.Path.{_≡_, sym, subst}
 use Prim.Native.Nat.{ℕ, _+_, _-_, _*_, _%_, _≤_}
 use native.Mathlib.Nat.{add-zero}
 use native.Mathlib.Omega.{arith}
@@ -32,7 +32,7 @@ use Rattle.counting.specs.Counting.{spanOf, Bounds, onTime, mostBefore}
 use Rattle.counting.specs.Rooms.{Holds, HasRoom, Roomy, Ample, roomFor, FiveMore}
 use Rattle.counting.proofs.Marching.{by-the-clock}
 use Rattle.counting.proofs.OnTime.{ends-on-time}
-use Rattle.counting.proofs.Lines.{Limits, under}
+use Rattle.counting.proofs.Lines.{under}
 use Rattle.counting.proofs.Runs.{limits}
 use Rattle.counting.proofs.Starts.{accepted-start}
 

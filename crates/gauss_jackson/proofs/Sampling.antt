@@ -9,7 +9,7 @@ use Rattle.triple.specs.declared.Sample.{Sample}
 use Rattle.refusals.specs.declared.Refusal.the-variants.{SampleRoom}
 use Rattle.plan.specs.Limits.{wantsSamples}
 use Rattle.run.specs.declared.Body.{Body}
-use Rattle.run.specs.Samples.{Room, tens, numbersOf, isPlaced, hasRoom, put, putAll, hasPlace, keptSample, keptPoints, startSamples}
+use Rattle.run.specs.Samples.{tens, numbersOf, isPlaced, hasRoom, put, putAll, hasPlace, keptSample, keptPoints, startSamples}
 use Rattle.run.proofs.Placing.{points-put, points-off}
 use Rattle.gauss_jackson.specs.declared.Answered.{Answered}
 use Rattle.gauss_jackson.specs.declared.Outcome.the-variants.{Refused}

@@ -35,6 +35,7 @@ use Rattle.gauss_jackson.specs.declared.Answered.{Answered}
 use Rattle.gauss_jackson.specs.declared.Outcome.{Outcome}
 use Rattle.gauss_jackson.specs.declared.Outcome.the-variants.{Refused}
 use Rattle.gauss_jackson.specs.Answers.{quiet, withStored, nextCount, noPlan, endedRun, ending, questionOf, asking, solutionOf, onward, sampling, startupEnded, stepEnded, passesOn, passEnded}
+use Rattle.gauss_jackson.proofs.Stores.{onward-quiet}
 use Rattle.rules.specs.Rules.{Course, stores, ends, exceeds, others, sampled, fly}
 use Rattle.rules.specs.Walk.{refused, told, over, Stop, afterStoring, settle}
 use Rattle.rules.proofs.Rest.{sweeping, passed, renewing, loop, due, later, restAt, rest, opened, lineOf, seen}
@@ -88,20 +89,6 @@ unfolding sampled
 wanted-is p i ss t e = ap (λ (d : Bool). cond d (stores i ss t) t) e
 
 -- ---- the head of the steps, which stores nothing
-onward-quiet : (c : Count) (b : Body) → onward c b .stored ≡ 0
-unfolding onward asking ending
-onward-quiet c b = go (isDue (b .plan) (b .track .t)) (ltb (b .track .steps) (b .plan .settings .«max_steps»)) (isTail (b .plan) (b .track .t))
-  where
-    go : (g d t : Bool)
-        → (cond g
-        (cond d (cond t (asking (Tail First) c b) (asking (Step 0) c (predicted b))) (ending (Refused MaxStepsExceeded)))
-        (ending (solutionOf (b .track .t) (b .track .state) c (b .track .steps) b))) .stored
-        ≡ 0
-    go true true true = refl
-    go true true false = refl
-    go true false t = refl
-    go false d t = refl
-
 module _ (c : Count) (b : Body) (l : isLawful (b .plan) ≡ true) (n : c .number ≡ c .evals % numbering) where
   onward-is : SteppingBody 0 (c .evals) b → (out : Room) → seen (quiet (onward c b) out) ≡ settle (loop b) (c .number) (c .evals) out
   unfolding onward settle solutionOf told predicted
