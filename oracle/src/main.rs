@@ -8,12 +8,17 @@
 //!   oracle cases SEED N     N random cases
 //!   oracle tables SEED N    N random tables, with times asked between their samples
 //!   oracle orbit            the orbit of examples/, by its bits
+//!   oracle forecast         W-207's nine lines on standard input, and what its program prints
+//!   oracle forecast many    the same for many, each a line of nine words
+//!   oracle forecast random SEED N   N random ones, a line each
 mod case;
 mod cases;
 mod dates;
 mod doubles;
 mod examples;
 mod force;
+mod forecast;
+mod forecasts;
 mod list;
 mod orbit;
 mod random;
@@ -37,6 +42,9 @@ fn main() -> io::Result<()> {
         ["examples"] => examples::print(&mut out)?,
         ["list"] => list::print(&mut out)?,
         ["orbit"] => orbit::print(&mut out)?,
+        ["forecast"] => forecast::one(io::stdin().lock(), &mut out)?,
+        ["forecast", "many"] => forecast::many(io::stdin().lock(), &mut out)?,
+        ["forecast", "random", seed, count] => forecasts::random(number(seed), number(count), &mut out)?,
         ["cases", seed, count] => cases::random(number(seed), number(count), &mut out)?,
         ["tables", seed, count] => tables::random(number(seed), number(count), &mut out)?,
         _ => usage(),
@@ -49,6 +57,6 @@ fn number(word: &str) -> u64 {
 }
 
 fn usage() -> ! {
-    eprintln!("usage: oracle run | examples | list | cases SEED N | tables SEED N | orbit");
+    eprintln!("usage: oracle run | examples | list | cases SEED N | tables SEED N | orbit | forecast [many | random SEED N]");
     std::process::exit(2)
 }
