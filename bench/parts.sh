@@ -26,11 +26,7 @@ all_works() {
 # Tables A and B for the plain loop, out of the library's own source.
 write_tables() {
     awk -f tools/tables/coefficients.awk crates/tables/src/?_rows.rt >$out/coefficients
-    awk '$2 == 0 && $3 == 0 { print "static const double " $1 "[10][9] = {" }
-        $3 == 0 { print "{" }
-        { print $5 "," }
-        $3 == 8 { print "}," }
-        $2 == 9 && $3 == 8 { print "};" }' $out/coefficients
+    awk -f tools/tables/header.awk $out/coefficients
 }
 
 # NAME FLAGS: a driver over the module as the flags compile it. Both have opt-level 3 and LTO.

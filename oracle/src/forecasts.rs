@@ -94,8 +94,14 @@ fn orbit(rng: &mut Random, low: f64, high: f64, step: (f64, f64)) -> Forecast {
 /// them before the start, within the startup and in the tail.
 fn dive(rng: &mut Random) -> Forecast {
     let mut f = orbit(rng, 7000.0, 7000.0, (1e-3, 10.0));
-    let ahead = from_to(rng, -5.0, ((f.tf - f.t0) / f.h).abs().min(60.0) + 1.0);
-    let ahead = if rng.once_in(3) { (ahead * 2.0).round() / 2.0 } else { ahead };
+    let end = ((f.tf - f.t0) / f.h).abs().min(60.0);
+    let ahead = from_to(rng, -5.0, end + 1.0);
+    let ahead = match rng.below(8) {
+        0 => ahead,
+        1 => (ahead * 2.0).round() / 2.0,
+        2 => rng.pick(&[end, (end + end.floor()) / 2.0]),
+        _ => ahead.round(),
+    };
     let speed = scale(rng, 3e3, 1e6);
     let way = if f.tf >= f.t0 { f.h.abs() } else { -f.h.abs() };
     f.v = any_way(rng, speed);
