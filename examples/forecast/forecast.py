@@ -21,7 +21,8 @@ REFUSALS = {
     19: "the program was given misshapen lines: this should not come from here",
 }
 KEYS = {"t0": 1, "tf": 1, "h": 1, "r": 3, "v": 3}
-ROWS = 25  # of a table that is thinned
+ROWS = 30  # at most, in a table that is thinned by one of these
+THINNING = 1, 2, 5, 10, 20, 30, 60, 120, 240, 360, 720, 1440, 2880, 7200, 14400, 43200
 WIDE, HIGH = 72, 18  # of a plot
 
 
@@ -95,27 +96,31 @@ def nine_lines(numbers):
     return "".join(struct.pack(">d", x).hex() + "\n" for x in numbers)
 
 
-def flown(program, lines):
-    """Each sample as it comes: its number and ten floats. In the end the refusal's number, or 0."""
-    try:
-        child = subprocess.Popen(shlex.split(program), stdin=subprocess.PIPE, stdout=subprocess.PIPE, text=True)
-    except OSError as error:
-        print(f"forecast.py: the program does not start: {error}; --program says where it is", file=sys.stderr)
-        sys.exit(3)
-    with child:
-        child.stdin.write(lines)
-        child.stdin.close()
-        refusal = 0
-        for line in child.stdout:
-            words = line.split()
-            if len(words) == 1:
-                refusal = int(words[0])
-            else:
-                yield int(words[0]), [struct.unpack(">d", bytes.fromhex(w))[0] for w in words[1:]]
-    if child.returncode != 0:
-        print(f"forecast.py: the program ended with {child.returncode}", file=sys.stderr)
-        sys.exit(3)
-    return refusal
+class Flight:
+    """Iterated, it gives each sample as it comes, its number and ten floats; then `refusal` is the refusal's number, or 0."""
+
+    def __init__(self, program, numbers):
+        self.refusal = 0
+        self.lines = nine_lines(numbers)
+        try:
+            self.child = subprocess.Popen(shlex.split(program), stdin=subprocess.PIPE, stdout=subprocess.PIPE, text=True)
+        except OSError as error:
+            print(f"forecast.py: the program does not start: {error} (--program says where it is)", file=sys.stderr)
+            sys.exit(3)
+
+    def __iter__(self):
+        with self.child as child:
+            child.stdin.write(self.lines)
+            child.stdin.close()
+            for line in child.stdout:
+                words = line.split()
+                if len(words) == 1:
+                    self.refusal = int(words[0])
+                else:
+                    yield int(words[0]), [struct.unpack(">d", bytes.fromhex(w))[0] for w in words[1:]]
+        if child.returncode != 0:
+            print(f"forecast.py: the program ended with {child.returncode}", file=sys.stderr)
+            sys.exit(3)
 
 
 def size(a):
@@ -123,29 +128,84 @@ def size(a):
 
 
 def thinned(samples, every):
-    """Every so many-th sample, and the last; hands on the refusal."""
-    last = None
-    while True:
-        try:
-            last = n, _ = next(samples)
-        except StopIteration as end:
-            if last is not None:
-                yield last
-            return end.value
-        if n % every == 0:
-            yield last
-            last = None
+    """Every so many-th sample, and the last."""
+    left = None
+    for sample in samples:
+        left = None if sample[0] % every == 0 else sample
+        if left is None:
+            yield sample
+    if left is not None:
+        yield left
 
 
 def show_table(samples):
-    print(f"{'number':>8} {'time s':>14} {'x km':>13} {'y km':>13} {'z km':>13} {'distance km':>13} {'speed km/s':>11}")
-    refusal = 0
-
-    def rows():
-        nonlocal refusal
-        refusal = yield from samples
-
-    for n, x in rows():
+    for n, x in samples:
         r, v = x[1:4], x[4:7]
+        if n == 0:
+            print(f"{'number':>8} {'time s':>14} {'x km':>13} {'y km':>13} {'z km':>13} {'distance km':>13} {'speed km/s':>11}")
         print(f"{n:8d} {x[0]:14.3f} {r[0]:13.3f} {r[1]:13.3f} {r[2]:13.3f} {size(r):13.3f} {size(v):11.6f}")
-    return refusal
+
+
+def show_rows(samples):
+    print("number,t,x,y,z,vx,vy,vz,ax,ay,az,distance")
+    for n, x in samples:
+        print(n, *map(repr, x), repr(size(x[1:4])), sep=",")
+
+
+def show_plot(samples, begin, end):
+    """A column for each stretch of time, from the lowest to the highest distance within it."""
+    columns = {}
+    for _, x in samples:
+        d = size(x[1:4])
+        if math.isfinite(d):
+            at = min(WIDE - 1, max(0, int((x[0] - begin) / (end - begin) * WIDE)))
+            low, high = columns.get(at, (d, d))
+            columns[at] = min(low, d), max(high, d)
+    if not columns:
+        return
+    bottom = min(low for low, _ in columns.values())
+    top = max(high for _, high in columns.values())
+    line_of = lambda d: round((d - bottom) / ((top - bottom) or 1.0) * (HIGH - 1))
+    print("distance from the centre, km")
+    for line in range(HIGH - 1, -1, -1):
+        marks = ("*" if at in columns and line_of(columns[at][0]) <= line <= line_of(columns[at][1]) else " " for at in range(WIDE))
+        label = f"{top:.3f}" if line == HIGH - 1 else f"{bottom:.3f}" if line == 0 else ""
+        print(f"{label:>14} |{''.join(marks)}".rstrip())
+    print(" " * 15 + "+" + "-" * WIDE)
+    print(f"{'time, s':>14}  {begin:<{WIDE // 2}g}{end:>{WIDE - WIDE // 2}g}")
+
+
+def show(asked, numbers, flight):
+    begin, end, h = numbers[:3]
+    steps = abs((end - begin) / h) if h else 0.0
+    if asked.plot:
+        show_plot(flight, begin, end)
+    elif asked.csv:
+        show_rows(thinned(flight, asked.every or 1))
+    else:
+        every = asked.every or next((n for n in THINNING if steps <= ROWS * n), THINNING[-1])
+        show_table(thinned(flight, every))
+        if asked.every is None and every > 1 and not flight.refusal:
+            print(f"One sample in {every} is shown, and the last; --every 1 shows all.")
+
+
+def main(words):
+    asked = read_words(words)
+    numbers = start_of(asked)
+    if asked.lines:
+        print(nine_lines(numbers), end="")
+        return 0
+    flight = Flight(asked.program, numbers)
+    show(asked, numbers, flight)
+    if flight.refusal:
+        sys.stdout.flush()
+        told = REFUSALS.get(flight.refusal, "a refusal that this script does not know")
+        print(f"Refused ({flight.refusal}): {told}.", file=sys.stderr)
+    return 1 if flight.refusal else 0
+
+
+if __name__ == "__main__":
+    try:
+        sys.exit(main(sys.argv[1:]))
+    except BrokenPipeError:  # who read along has seen enough
+        sys.stderr.close()
