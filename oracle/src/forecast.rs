@@ -129,6 +129,12 @@ impl Forecast {
         flight.pull.low_after.is_some() || !matches!(flight.end, Err(OdeError::MaxStepsExceeded))
     }
 
+    /// Whether the last of all questions is the first that is too low.
+    pub fn ends_low(&self) -> bool {
+        let pull = self.flown(LIMITS[0]).pull;
+        pull.low_after.map(|answers| answers + 1) == Some(pull.asked)
+    }
+
     fn printed(&self) -> Printed {
         let nothing = |refusal| (Samples { t: vec![], r: vec![], v: vec![], a: vec![] }, Some(refusal));
         if ![self.t0, self.tf, self.h].iter().all(|x| x.is_finite()) {

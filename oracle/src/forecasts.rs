@@ -111,6 +111,38 @@ fn dive(rng: &mut Random) -> Forecast {
     f
 }
 
+/// A tail that ends about 1 km from the centre, slowly enough that the pull decides which of its questions are too low.
+fn graze(rng: &mut Random) -> Forecast {
+    let mut f = orbit(rng, 7000.0, 7000.0, (1e-4, 3e-3));
+    let way = f.h.abs() * rng.pick(&[1.0, -1.0]);
+    let ahead = (8 + rng.below(12)) as f64 + from_to(rng, 0.05, 0.95);
+    f.tf = f.t0 + way * ahead;
+    let (speed, off) = (scale(rng, 5e2, 5e3), from_to(rng, 0.3, 2.0));
+    f.v = any_way(rng, speed);
+    let beside = if rng.once_in(2) { across(f.v, rng, off) } else { sized(f.v, -off) };
+    f.r = std::array::from_fn(|i| beside[i] - f.v[i] * way * ahead);
+    f
+}
+
+/// One whose last question alone is too low, if one of some is.
+fn graze_at_last(rng: &mut Random) -> Forecast {
+    let tried: Vec<Forecast> = (0..60).map(|_| graze(rng)).collect();
+    tried.iter().find(|f| f.ends_low()).unwrap_or(&tried[0]).clone()
+}
+
+/// Away to where mu times a component overflows, and the answer is a NaN: in a step, or in the tail, whose sample then has it.
+fn run_off(rng: &mut Random) -> Forecast {
+    let mut f = orbit(rng, 7000.0, 7000.0, (1.0, 100.0));
+    let way = if f.tf >= f.t0 { f.h.abs() } else { -f.h.abs() };
+    let end = ((f.tf - f.t0) / f.h).abs();
+    let ahead = rng.pick(&[end, end - 0.1, end + 0.1, end.floor(), end / 2.0]) + 0.3 * rng.unit();
+    let far = f64::MAX / MU;
+    let i = rng.below(3) as usize;
+    f.v[i] = rng.unit() * far * 1e-3 / f.h;
+    f.r[i] = far.copysign(f.v[i] * way) - f.v[i] * way * ahead;
+    f
+}
+
 /// From rest, or nearly, and from some kilometres up: a fall through the centre, or away from it after one step too long.
 fn fall(rng: &mut Random) -> Forecast {
     let mut f = orbit(rng, 1.0, 3000.0, (1e-4, 100.0));
@@ -183,10 +215,12 @@ fn forecast(rng: &mut Random) -> Forecast {
         6 | 7 => orbit(rng, 9000.0, 1e6, (30.0, 7200.0)),
         8 => orbit(rng, 6500.0, 42000.0, (200.0, 1e5)),
         9..=11 => dive(rng),
-        12 | 13 => fall(rng),
+        12 => rng.pick(&[graze, graze_at_last])(rng),
+        13 => fall(rng),
         14 => at_the_limit(rng),
         15 | 16 => refused(rng),
-        17 | 18 => strange(rng),
+        17 => strange(rng),
+        18 => rng.pick(&[run_off, strange, run_off])(rng),
         _ => tiny(rng),
     }
 }
