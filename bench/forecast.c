@@ -6,7 +6,6 @@
 #include "bench.h"
 #include "plain.h"
 
-#include <inttypes.h>
 #include <stdio.h>
 #include <stdlib.h>
 #include <string.h>
@@ -39,8 +38,8 @@ static uint64_t bits_of(double x) {
 
 #ifdef BY_PRINTF
 static void print(uint64_t n, const double *x) {
-    printf("%" PRIu64, n);
-    for (int i = 0; i < 10; i++) printf(" %016" PRIx64, bits_of(x[i]));
+    printf("%llu", (unsigned long long)n);
+    for (int i = 0; i < 10; i++) printf(" %016llx", (unsigned long long)bits_of(x[i]));
     putchar('\n');
 }
 #else
