@@ -215,12 +215,13 @@ fn forecast(rng: &mut Random) -> Forecast {
         6 | 7 => orbit(rng, 9000.0, 1e6, (30.0, 7200.0)),
         8 => orbit(rng, 6500.0, 42000.0, (200.0, 1e5)),
         9..=11 => dive(rng),
-        12 => rng.pick(&[graze, graze_at_last])(rng),
+        12 if rng.once_in(2) => graze(rng),
+        12 => graze_at_last(rng),
         13 => fall(rng),
         14 => at_the_limit(rng),
         15 | 16 => refused(rng),
         17 => strange(rng),
-        18 => rng.pick(&[run_off, strange, run_off])(rng),
+        18 => run_off(rng),
         _ => tiny(rng),
     }
 }
