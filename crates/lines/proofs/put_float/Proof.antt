@@ -1,0 +1,14 @@
+-- `put_float` puts the hex of `toBits`.
+use mathlib.Core.Path.{_∙_}
+use borrow.Author.Needs.{needs}
+use Rattle.lines.specs.Put.{put}
+use Rattle.lines.specs.Digits.{floatHex}
+use Rattle.lines.proofs.put_float.Statement.{statement}
+use Rattle.lines.proofs.put_float.Tie as tie
+
+returns : tie.Need-returns
+unfolding floatHex
+returns c = c .before .before .put-hex .ensures ∙ simp (c .before .before .before .before .bits-of .ensures)
+
+pub put-float-spec : {M : Type 1} → statement M
+put-float-spec = tie.close (tie.spec (λ c κs. search needs) (λ c κs. search needs) (λ c. search needs) returns)
