@@ -1,2 +1,4 @@
 pub mod Over
 pub mod Places
+pub mod Floats
+pub mod Parts

@@ -38,7 +38,7 @@ length-digits base (suc k) n =
     let e : k + 1 ≡ suc k = omega arith in
     length-append (digits base k (n / base)) (glyph (n % base) ∷ []) ∙ ap (λ (j : ℕ). j + 1) (length-digits base k (n / base)) ∙ e
 
-one-over : (i j b : ℕ) (l : List ℕ) → i ≡ j → over i (b ∷ []) l ≡ set l j b
+pub one-over : (i j b : ℕ) (l : List ℕ) → i ≡ j → over i (b ∷ []) l ≡ set l j b
 unfolding over
 one-over i j b l e = ap (λ (k : ℕ). set l k b) e
 

@@ -3,7 +3,9 @@
 ghost use mathlib.Core.Path.{_≡_};
 ghost use Rattle.lines.specs.Put.{put, after};
 ghost use Rattle.lines.specs.Digits.{hexOf, floatHex, decimalOf};
+ghost use Rattle.lines.specs.Lines.{refusalLine, putLine, afterLine};
 
+mod rows;
 mod spell;
 
 // The sixteen hex digits of a number.
@@ -34,4 +36,31 @@ pub fn put_decimal(n: u64, at: usize, out: &mut [u8]) -> usize
     }
     spell::decimal(n, k, at, out);
     at + k
+}
+
+// A refusal's line: its number and a newline; the place after it.
+pub fn put_refusal(n: u64, at: usize, out: &mut [u8]) -> usize
+    ensures { λ r. ⌜ r ≡ after (refusalLine n) at (now (out .entry)) ⌝ }
+    ensures { λ _. ⌜ now (out .exit) ≡ put (refusalLine n) at (now (out .entry)) ⌝ }
+{
+    let k = spell::places(n);
+    if !spell::has_room(k + 1, at, out.len()) {
+        return at;
+    }
+    rows::refusal(n, k, at, out)
+}
+
+// A sample's line: its number, and the ten numbers from place `first` on, each after a blank; the place after it. Nothing is written where the
+// ten numbers are not there, or 191 bytes, which the longest line takes, have no room.
+pub fn put_line(n: u64, numbers: &[f64], first: usize, at: usize, out: &mut [u8]) -> usize
+    ensures { λ r. ⌜ r ≡ afterLine n (now (numbers .entry)) first at (now (out .entry)) ⌝ }
+    ensures { λ _. ⌜ now (out .exit) ≡ putLine n (now (numbers .entry)) first at (now (out .entry)) ⌝ }
+{
+    if !spell::has_room(10, first, numbers.len()) {
+        return at;
+    }
+    if !spell::has_room(191, at, out.len()) {
+        return at;
+    }
+    rows::sample(n, numbers, first, at, out)
 }

@@ -48,7 +48,7 @@ pub fn hex(x: u64, at: usize, out: &mut [u8])
 
 // How many decimal digits a number has.
 pub fn places(n: u64) -> usize
-    ensures { λ r. ⌜ r ≡ Digits·places 19 n ⌝ }
+    ensures { λ r. ⌜ (r ≡ Digits·places 19 n) × (r ≤ 20) ⌝ }
 {
     let mut rest = n;
     let mut k = 1usize;

@@ -15,7 +15,7 @@ returns : tie.Need-returns
 returns c =
     let k = c .before .before .places in
     let args = c .before .before .before .before .args in
-    let e = length-decimal (args .n) ∙ sym (k .ensures) in
+    let e = length-decimal (args .n) ∙ sym (k .ensures .0) in
     let h = sym (c .before .has-room .ensures) ∙ not-true _ (c .if1 .taken) in
     (sym (after-none (decimalOf (args .n)) (k .result) (args .at) (args .out .now) e h), sym (put-none (decimalOf (args .n)) (k .result) (args .at) (args .out .now) e h))
 
@@ -34,9 +34,9 @@ returns-2 c =
     let room = c .before .before .before .before in
     let k = room .before .before .places in
     let args = room .before .before .before .before .args in
-    let e = length-decimal (args .n) ∙ sym (k .ensures) in
+    let e = length-decimal (args .n) ∙ sym (k .ensures .0) in
     let h = sym (room .before .has-room .ensures) ∙ not-false _ (room .if1 .left) in
-    let d = ap (λ (j : ℕ). over (args .at) (digits 10 j (args .n)) (args .out .now)) (k .ensures) in (
+    let d = ap (λ (j : ℕ). over (args .at) (digits 10 j (args .n)) (args .out .now)) (k .ensures .0) in (
       sym (after-all (decimalOf (args .n)) (k .result) (args .at) (args .out .now) e h),
       c .before .before .decimal .ensures ∙ d ∙ sym (put-all (decimalOf (args .n)) (k .result) (args .at) (args .out .now) e h),
     )

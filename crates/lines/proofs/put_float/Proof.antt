@@ -1,7 +1,6 @@
 -- `put_float` puts the hex of `toBits`.
 use mathlib.Core.Path.{_∙_}
 use borrow.Author.Needs.{needs}
-use Rattle.lines.specs.Put.{put}
 use Rattle.lines.specs.Digits.{floatHex}
 use Rattle.lines.proofs.put_float.Statement.{statement}
 use Rattle.lines.proofs.put_float.Tie as tie

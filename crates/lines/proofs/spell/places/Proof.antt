@@ -14,30 +14,24 @@ Inv-loop n rest₀ k₀ rest k = (k ≤ 20) × (k + places (20 - k) rest ≡ 1 +
 abbrev μ-loop : tie.MeasureT-loop
 μ-loop n rest₀ k₀ rest k = 20 - k
 
--- src/spell.rt:41:5
 loop-holds : tie.Need-loop-holds Inv-loop μ-loop
 loop-holds c = (search needs, refl)
 
--- src/spell.rt:43:13
 returns : tie.Need-returns Inv-loop μ-loop
-returns c = let at = c .before .before in omega (arith, last-place (20 - at .loop .k) (at .loop .rest) (c .if1 .taken))
+returns c =
+    let at = c .before .before in
+    let e = last-place (20 - at .loop .k) (at .loop .rest) (c .if1 .taken) in
+    (omega arith, omega arith)
 
--- src/spell.rt:46:9
-add-k : tie.Need-add-k Inv-loop μ-loop
-add-k c = search needs
-
--- src/spell.rt:41:5
-loop-less : tie.Need-loop-less Inv-loop μ-loop
-loop-less c = search needs
-
--- src/spell.rt:41:5
 loop-again : tie.Need-loop-again Inv-loop μ-loop
 loop-again c = let at = c .before .before in (search needs, next-place (at .loop .k) (at .loop .rest) (omega arith) (c .if1 .left) ∙ at .loop .inv .1)
 
--- src/spell.rt:36:1
 returns-2 : tie.Need-returns-2 Inv-loop μ-loop
-returns-2 c = let at = c .before in omega (arith, no-place-left (at .loop .k) (at .loop .rest) (omega arith))
+returns-2 c =
+    let at = c .before in
+    let e = no-place-left (at .loop .k) (at .loop .rest) (omega arith) in
+    (omega arith, omega arith)
 
 pub places-spec : {M : Type 1} → statement M
 places-spec =
-    tie.close (tie.spec Inv-loop μ-loop loop-holds returns add-k loop-less loop-again returns-2)
+    tie.close (tie.spec Inv-loop μ-loop loop-holds returns (λ c. search needs) (λ c. search needs) loop-again returns-2)
