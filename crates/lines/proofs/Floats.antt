@@ -5,10 +5,10 @@ use native.Mathlib.Omega.{arith}
 use mathlib.Core.List.{List, [], _∷_}
 use lib.Ieee.{Float, nan, toBits, binary64}
 use lib.ListN.{length, getD, take, drop, set, length-append}
-use lib.Seq.{drop-cons}
 use Rattle.lines.specs.Put.{over}
 use Rattle.lines.specs.Digits.{hexOf, floatHex}
 use Rattle.lines.specs.Lines.{floatsOf, tenFrom}
+use Rattle.lines.proofs.Taken.{next-of, all-of}
 use Rattle.lines.proofs.Over.{length-hex, over-append}
 
 length-float : (x : Float) → length (floatHex x) ≡ 16
@@ -44,11 +44,7 @@ next-float numbers first i at bits l h n e =
     let rest = take (10 - (i + 1)) (drop (first + (i + 1)) numbers) in
     let e₁ : at + 17 * (i + 1) ≡ at + 17 * i + 17 = omega arith in
     let e₂ : at + 17 * i + 1 ≡ suc (at + 17 * i) = omega arith in
-    let e₃ : 10 - i ≡ suc (10 - (i + 1)) = omega arith in
-    let e₄ : suc (first + i) ≡ first + (i + 1) = omega arith in
-    let d : take (10 - i) (drop (first + i) numbers) ≡ x ∷ rest =
-    (rw (drop-cons numbers (first + i) nan (omega arith), e₃, e₄) refl) in
-    rw (e₁, e₂, e, d) (front-float x rest (at + 17 * i) l)
+    rw (e₁, e₂, e, next-of numbers nan 10 first i h n) (front-float x rest (at + 17 * i) l)
 
 -- none behind ten
 pub ten-floats : (numbers : List Float) (first i at : ℕ) (l : List ℕ) → i ≡ 10
@@ -60,6 +56,5 @@ pub all-floats : (numbers : List Float) (first at : ℕ) (l : List ℕ)
     → over (at + 17 * 0) (floatsOf (take (10 - 0) (drop (first + 0) numbers))) l ≡ over at (floatsOf (tenFrom first numbers)) l
 unfolding tenFrom
 all-floats numbers first at l =
-    let e₁ : at + 17 * 0 ≡ at = omega arith in
-    let e₂ : first + 0 ≡ first = omega arith in
-    rw (e₁, e₂) refl
+    let e : at + 17 * 0 ≡ at = omega arith in
+    rw (e, all-of numbers 10 first) refl

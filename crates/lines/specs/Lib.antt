@@ -1,3 +1,5 @@
 pub mod Put
 pub mod Digits
 pub mod Lines
+pub mod Read
+pub mod Nine

@@ -1,12 +1,27 @@
 // SPDX-License-Identifier: MIT OR Apache-2.0
-// Numbers as text, into lent bytes. No function writes a byte where not all of its bytes have room.
+// Numbers as text: into lent bytes, and out of them. No function writes a byte where not all of its bytes have room.
 ghost use mathlib.Core.Path.{_≡_};
 ghost use Rattle.lines.specs.Put.{put, after};
 ghost use Rattle.lines.specs.Digits.{hexOf, floatHex, decimalOf};
 ghost use Rattle.lines.specs.Lines.{refusalLine, putLine, afterLine};
+ghost use Rattle.lines.specs.Read.{readHex};
+ghost use Rattle.lines.specs.Nine.{readNine};
 
+mod reading;
 mod rows;
 mod spell;
+
+// What sixteen bytes mean; the value is 0 where they are not all hex digits.
+pub struct Sixteen {
+    pub ok: bool,
+    pub value: u64,
+}
+
+// What nine lines mean; the numbers are 0 where a text is not nine lines.
+pub struct Nine {
+    pub ok: bool,
+    pub numbers: [u64; 9],
+}
 
 // The sixteen hex digits of a number.
 pub fn put_hex(x: u64, at: usize, out: &mut [u8])
@@ -63,4 +78,30 @@ pub fn put_line(n: u64, numbers: &[f64], first: usize, at: usize, out: &mut [u8]
         return at;
     }
     rows::sample(n, numbers, first, at, out)
+}
+
+// The number whose sixteen hex digits, small or capital, stand from `at` on.
+pub fn read_hex(text: &[u8], at: usize) -> Sixteen
+    ensures { λ r. ⌜ r ≡ readHex (now (text .entry)) at ⌝ }
+{
+    if !spell::has_room(16, at, text.len()) {
+        return Sixteen {
+            ok: false,
+            value: 0,
+        };
+    }
+    reading::sixteen(text, at)
+}
+
+// Nine lines, each of sixteen hex digits and a newline; the ninth newline may be missing, and nothing else may be there.
+pub fn read_nine(text: &[u8]) -> Nine
+    ensures { λ r. ⌜ r ≡ readNine (now (text .entry)) ⌝ }
+{
+    if text.len() < 152 {
+        return reading::none();
+    }
+    if text.len() > 153 {
+        return reading::none();
+    }
+    reading::lines(text)
 }
