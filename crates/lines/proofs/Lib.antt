@@ -5,3 +5,5 @@ pub mod Floats
 pub mod Parts
 pub mod Values
 pub mod Nines
+pub mod Fields
+pub mod Eight

@@ -7,6 +7,7 @@ use mathlib.Core.Bool.{true, false}
 use lib.Dec.{leb}
 use lib.ListN.{length, set, length-set, length-append}
 use lib.Seq.{set-comm}
+use borrow.Author.Tests.{lt-ltb}
 use Rattle.lines.specs.Put.{over, put, after}
 use Rattle.lines.specs.Digits.{glyph, digits, hexOf, places, decimalOf}
 
@@ -50,30 +51,34 @@ pub length-decimal : (n : ℕ) → length (decimalOf n) ≡ places 19 n
 unfolding decimalOf
 length-decimal n = length-digits 10 (places 19 n) n
 
--- the last digit first, then those before it
-pub last-first : (base k n at : ℕ) (l : List ℕ)
-    → over at (digits base k (n / base)) (set l (at + k) (glyph (n % base))) ≡ over at (digits base (suc k) n) l
+-- ---- decimals, the last digit first
+numeral : (n : ℕ) → 48 + n % 10 ≡ glyph (n % 10)
+unfolding glyph
+numeral n = let h : n % 10 < 10 = omega arith in rw (lt-ltb _ _ h) refl
+
+last-first : (k n at : ℕ) (l : List ℕ)
+    → over at (digits 10 k (n / 10)) (set l (at + k) (glyph (n % 10))) ≡ over at (digits 10 (suc k) n) l
 unfolding digits
-last-first base k n at l =
-    let front = digits base k (n / base) in
-    let last = glyph (n % base) in
-    let e : at + length front ≡ at + k = ap (λ (j : ℕ). at + j) (length-digits base k (n / base)) in
+last-first k n at l =
+    let front = digits 10 k (n / 10) in
+    let last = glyph (n % 10) in
+    let e : at + length front ≡ at + k = ap (λ (j : ℕ). at + j) (length-digits 10 k (n / 10)) in
     over-set at front l (at + k) last (omega (arith, e))
     ∙ sym (over-append at front (last ∷ []) l ∙ one-over (at + length front) (at + k) last (over at front l) e)
 
--- the same as a loop has it, which counts down from k
-pub one-turn : (base k n at b : ℕ) (l : List ℕ) → 0 < k → b ≡ glyph (n % base)
-    → over at (digits base (k - 1) (n / base)) (set l (at + (k - 1)) b) ≡ over at (digits base k n) l
-one-turn base k n at b l h e =
+-- the same as the loop has it, which counts down from k
+pub one-turn : (k n at : ℕ) (l : List ℕ) → 0 < k
+    → over at (digits 10 (k - 1) (n / 10)) (set l (at + (k - 1)) (48 + n % 10)) ≡ over at (digits 10 k n) l
+one-turn k n at l h =
     let d : suc (k - 1) ≡ k = omega arith in
-    ap (λ (x : ℕ). over at (digits base (k - 1) (n / base)) (set l (at + (k - 1)) x)) e
-    ∙ last-first base (k - 1) n at l
-    ∙ ap (λ (j : ℕ). over at (digits base j n) l) d
+    ap (λ (x : ℕ). over at (digits 10 (k - 1) (n / 10)) (set l (at + (k - 1)) x)) (numeral n)
+    ∙ last-first (k - 1) n at l
+    ∙ ap (λ (j : ℕ). over at (digits 10 j n) l) d
 
 -- when none is left
-pub none-left : (base k n at : ℕ) (l : List ℕ) → k ≡ 0 → l ≡ over at (digits base k n) l
+pub none-left : (k n at : ℕ) (l : List ℕ) → k ≡ 0 → l ≡ over at (digits 10 k n) l
 unfolding over digits
-none-left base k n at l e = sym (ap (λ (j : ℕ). over at (digits base j n) l) e)
+none-left k n at l e = sym (ap (λ (j : ℕ). over at (digits 10 j n) l) e)
 
 -- ---- k bytes, with and without room
 module _ (bytes : List ℕ) (k at : ℕ) (l : List ℕ) (e : length bytes ≡ k) where

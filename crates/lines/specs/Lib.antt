@@ -1,5 +1,6 @@
 pub mod Put
 pub mod Digits
+pub mod Words
 pub mod Lines
 pub mod Read
 pub mod Nine

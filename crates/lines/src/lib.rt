@@ -10,6 +10,7 @@ ghost use Rattle.lines.specs.Nine.{readNine};
 mod reading;
 mod rows;
 mod spell;
+mod word;
 
 // What sixteen bytes mean; the value is 0 where they are not all hex digits.
 pub struct Sixteen {

@@ -1,12 +1,12 @@
 // SPDX-License-Identifier: MIT OR Apache-2.0
-// Digits into bytes that have room for them, the last digit first.
+// Digits into bytes that have room for them.
+use crate::word;
 ghost use mathlib.Core.Path.{_≡_};
 ghost use Prim.Native.Nat.{_+_, _≤_, _<_};
 ghost use lib.Dec.{leb};
 ghost use lib.ListN.{length};
 ghost use Rattle.lines.specs.Put.{over};
 ghost use Rattle.lines.specs.Digits.{digits, hexOf};
-ghost use Rattle.lines.specs.Digits.{glyph as Digits·glyph};
 ghost use Rattle.lines.specs.Digits.{places as Digits·places};
 
 // Whether `k` bytes have room from `at` on, of `room`.
@@ -22,28 +22,15 @@ pub fn has_room(k: usize, at: usize, room: usize) -> bool
     true
 }
 
-fn glyph(d: u8) -> u8
-    requires { ⌜ d < 16 ⌝ }
-    ensures { λ r. ⌜ r ≡ Digits·glyph d ⌝ }
-{
-    if d < 10 {
-        return 48 + d;
-    }
-    87 + d
-}
-
 // The sixteen hex digits of a number.
 pub fn hex(x: u64, at: usize, out: &mut [u8])
     requires { ⌜ at + 16 ≤ length (now out) ⌝ }
     ensures { λ _. ⌜ now (out .exit) ≡ over at (hexOf x) (now (out .entry)) ⌝ }
 {
-    let mut rest = x;
-    let mut i = 16usize;
-    while i > 0 {
-        i -= 1;
-        out[at + i] = glyph((rest % 16) as u8);
-        rest /= 16;
-    }
+    let first = word::eight_digits(x / 0x1_0000_0000);
+    let last = word::eight_digits(x % 0x1_0000_0000);
+    word::put_bytes(first, at, out);
+    word::put_bytes(last, at + 8, out);
 }
 
 // How many decimal digits a number has.
@@ -71,7 +58,7 @@ pub fn decimal(n: u64, k: usize, at: usize, out: &mut [u8])
     let mut i = k;
     while i > 0 {
         i -= 1;
-        out[at + i] = glyph((rest % 10) as u8);
+        out[at + i] = b'0' + (rest % 10) as u8;
         rest /= 10;
     }
 }

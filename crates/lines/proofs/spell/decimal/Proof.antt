@@ -1,4 +1,4 @@
--- `decimal` puts the digits as `hex` does.
+-- `decimal` puts the digits, the last one first: what is left to put, put over what is there, stays the same.
 use mathlib.Core.Path.{_≡_, refl, _∙_}
 use Prim.Native.Nat.{_≤_}
 use native.Mathlib.Omega.{arith}
@@ -24,11 +24,10 @@ slice-write-out c = omega arith
 
 loop-again : tie.Need-loop-again Inv-loop μ-loop
 loop-again c =
-    let at = c .before .before in
-    let start = at .before .before in (
+    let at = c .before in (
       search needs,
       simp length-set (at .loop .inv .1),
-      one-turn 10 (at .loop .i) (at .loop .rest) (start .args .at) (c .glyph .result) (at .loop .out) (c .before .loop-test .taken) (c .glyph .ensures)
+      one-turn (at .loop .i) (at .loop .rest) (at .before .args .at) (at .loop .out) (c .loop-test .taken)
           ∙ at .loop .inv .2,
     )
 
@@ -38,7 +37,7 @@ same-length c = c .before .loop .inv .1
 returns : tie.Need-returns Inv-loop μ-loop
 returns c =
     let at = c .before in
-    none-left 10 (at .loop .i) (at .loop .rest) (at .before .before .args .at) (at .loop .out) (omega arith) ∙ at .loop .inv .2
+    none-left (at .loop .i) (at .loop .rest) (at .before .args .at) (at .loop .out) (omega arith) ∙ at .loop .inv .2
 
 pub decimal-spec : {M : Type 1} → statement M
 decimal-spec =
@@ -49,7 +48,7 @@ decimal-spec =
     loop-holds
     (λ c. search needs)
     (λ c. search needs)
-    (λ c κs. search needs)
+    (λ c. search needs)
     (λ c. search needs)
     slice-write-out
     (λ c. search needs)
