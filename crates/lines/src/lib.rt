@@ -24,21 +24,24 @@ pub struct Nine {
     pub numbers: [u64; 9],
 }
 
-// The sixteen hex digits of a number.
-pub fn put_hex(x: u64, at: usize, out: &mut [u8])
+// The sixteen hex digits of a number; the place after them.
+pub fn put_hex(x: u64, at: usize, out: &mut [u8]) -> usize
+    ensures { λ r. ⌜ r ≡ after (hexOf x) at (now (out .entry)) ⌝ }
     ensures { λ _. ⌜ now (out .exit) ≡ put (hexOf x) at (now (out .entry)) ⌝ }
 {
     if !spell::has_room(16, at, out.len()) {
-        return;
+        return at;
     }
     spell::hex(x, at, out);
+    at + 16
 }
 
-// A float: the hex digits of its bits, for every NaN the same.
-pub fn put_float(x: f64, at: usize, out: &mut [u8])
+// A float: the hex digits of its bits, for every NaN the same; the place after them.
+pub fn put_float(x: f64, at: usize, out: &mut [u8]) -> usize
+    ensures { λ r. ⌜ r ≡ after (floatHex x) at (now (out .entry)) ⌝ }
     ensures { λ _. ⌜ now (out .exit) ≡ put (floatHex x) at (now (out .entry)) ⌝ }
 {
-    put_hex(bits::bits_of(x), at, out);
+    put_hex(bits::bits_of(x), at, out)
 }
 
 // A number in decimal; the place after it.
