@@ -1,0 +1,40 @@
+-- One turn of a piece, and where it stops.
+use mathlib.Core.Path.{_≡_, refl, ap}
+use Prim.Native.Nat.{ℕ, zero, suc, _-_, _≤_, _<_}
+use native.Mathlib.Omega.{arith}
+use mathlib.Core.Bool.{Bool, true, false, _&&_}
+use mathlib.Core.List.{List}
+use lib.Dec.{ltb}
+use lib.ListN.{length}
+use lib.Ieee.{Float}
+use borrow.Author.Tests.{ltb-true}
+use Rattle.run.specs.Samples.{isPlaced}
+use Rattle.run.proofs.Counts.{both}
+use Rattle.flight.specs.declared.Flight.{Flight}
+use Rattle.flight.specs.Flight.{Flown, beyond, isReady, answeredOnce, flownBy}
+
+module _ (from : ℕ) (f : Flight) (numbers : List Float) where
+  abbrev ready : Type 0
+  ready = isReady (f .asks) from (f .next) (length numbers) ≡ true
+
+  pub flown-more : (left : ℕ) → 0 < left → ready → flownBy left from f numbers ≡ flownBy (left - 1) from (answeredOnce from f numbers .flight) (answeredOnce from f numbers .out)
+  unfolding flownBy
+  flown-more zero h r = absurd (omega arith)
+  flown-more (suc left) h r =
+      let e : left ≡ suc left - 1 = omega arith in
+      rw r (ap (λ (n : ℕ). flownBy n from (answeredOnce from f numbers .flight) (answeredOnce from f numbers .out)) e)
+
+  pub flown-stops : (left : ℕ) → isReady (f .asks) from (f .next) (length numbers) ≡ false → flownBy left from f numbers ≡ record { flight = f; out = numbers }
+  unfolding flownBy
+  flown-stops zero r = refl
+  flown-stops (suc left) r = rw r (refl)
+
+  pub flown-up : (left : ℕ) → left ≤ 0 → flownBy left from f numbers ≡ record { flight = f; out = numbers }
+  unfolding flownBy
+  flown-up zero h = refl
+  flown-up (suc left) h = absurd (omega arith)
+
+-- where a piece goes on the next number is near
+pub ready-near : (asks : Bool) (from next room : ℕ) → isReady asks from next room ≡ true → next < beyond
+unfolding isReady
+ready-near asks from next room h = ltb-true next beyond (both (asks && isPlaced from next 5 room) (ltb next beyond) h .1)
