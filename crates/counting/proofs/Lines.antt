@@ -41,7 +41,7 @@ module _ (c : Claims) (E N : ℕ) (l : Limits c E N) where
   under e n exceeds h = absurd (l .never e n h)
 
 -- ---- rows of samples, one after the other
-put-more : (n m : ℕ) (ss rs : List Sample) (out : Room) → n + length ss ≡ m → putAll m rs (putAll n ss out) ≡ putAll n (ss ++ rs) out
+pub put-more : (n m : ℕ) (ss rs : List Sample) (out : Room) → n + length ss ≡ m → putAll m rs (putAll n ss out) ≡ putAll n (ss ++ rs) out
 unfolding putAll
 put-more n m [] rs out e = let f : m ≡ n = omega arith in ap (λ (i : ℕ). putAll i rs out) f
 put-more n m (s ∷ ss) rs out e = put-more (n + 1) m ss rs (put n s out) (omega arith)

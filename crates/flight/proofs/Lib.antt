@@ -1,3 +1,9 @@
 pub mod Stored
 pub mod Pieces
 pub mod Once
+pub mod Rows
+pub mod Reading
+pub mod Settling
+pub mod Tales
+pub mod Answering
+pub mod Telling

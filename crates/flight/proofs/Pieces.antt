@@ -34,7 +34,10 @@ module _ (from : ℕ) (f : Flight) (numbers : List Float) where
   flown-up zero h = refl
   flown-up (suc left) h = absurd (omega arith)
 
--- where a piece goes on the next number is near
-pub ready-near : (asks : Bool) (from next room : ℕ) → isReady asks from next room ≡ true → next < beyond
+-- where a piece goes on
+pub ready-is : (asks : Bool) (from next room : ℕ) → isReady asks from next room ≡ true → (asks ≡ true) × (isPlaced from next 5 room ≡ true) × (next < beyond)
 unfolding isReady
-ready-near asks from next room h = ltb-true next beyond (both (asks && isPlaced from next 5 room) (ltb next beyond) h .1)
+ready-is asks from next room h =
+    let b = both (asks && isPlaced from next 5 room) (ltb next beyond) h in
+    let d = both asks (isPlaced from next 5 room) (b .0) in
+    (d .0, d .1, ltb-true next beyond (b .1))

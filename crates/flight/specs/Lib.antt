@@ -1,2 +1,3 @@
 pub mod Story
 pub mod Flight
+pub mod Told

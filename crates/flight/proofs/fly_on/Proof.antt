@@ -6,7 +6,7 @@ use borrow.Author.Needs.{needs}
 use borrow.Author.Tests.{not-true, not-false}
 use lib.ListN.{length}
 use Rattle.flight.specs.Flight.{Flown, piece, isReady, flownBy, flownOn}
-use Rattle.flight.proofs.Pieces.{flown-more, flown-stops, flown-up, ready-near}
+use Rattle.flight.proofs.Pieces.{flown-more, flown-stops, flown-up, ready-is}
 use Rattle.flight.proofs.fly_on.Statement.{statement}
 use Rattle.flight.proofs.fly_on.Tie as tie
 
@@ -29,7 +29,7 @@ returns c =
     (ap (λ (g : Flown). g .flight) h, ap (λ (g : Flown). g .out) h)
 
 answer-once-requires : tie.Need-answer-once-requires Inv-loop μ-loop
-answer-once-requires c κs = ready-near _ _ _ _ (sym (c .before .before .is-ready .ensures) ∙ not-false _ (c .before .if1 .left))
+answer-once-requires c κs = ready-is _ _ _ _ (sym (c .before .before .is-ready .ensures) ∙ not-false _ (c .before .if1 .left)) .2
 
 loop-again : tie.Need-loop-again Inv-loop μ-loop
 loop-again c =
