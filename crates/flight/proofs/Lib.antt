@@ -7,3 +7,5 @@ pub mod Settling
 pub mod Tales
 pub mod Answering
 pub mod Telling
+pub mod Ending
+pub mod OnTime

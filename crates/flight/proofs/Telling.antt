@@ -71,10 +71,10 @@ module _ (p : Plan) (c : Claims) where
   goes-less h x = record { samples = x .samples; count = x .count; put = x .put; room = x .room; left = x .left; tale = x .tale; tells = since-less p c h (x .tells) }
 
   -- ---- a piece
-  abbrev Piece : (left : ℕ) → Type 0
+  abbrev pub Piece : (left : ℕ) → Type 0
   Piece left = (m from : ℕ) (f : Flight) (numbers : List Float) (st : Story) → sampleWidth * (f .next - from) ≤ length numbers → Tells p c m f st → Goes p c m from f numbers st (flownBy left from f numbers)
 
-  turn : (left : ℕ) → Piece left → (m from : ℕ) (f : Flight) (numbers : List Float) (st : Story) → isReady (f .asks) from (f .next) (length numbers) ≡ true → Open p c m f st
+  pub turn : (left : ℕ) → Piece left → (m from : ℕ) (f : Flight) (numbers : List Float) (st : Story) → isReady (f .asks) from (f .next) (length numbers) ≡ true → Open p c m f st
       → Goes p c (m + 1) from f numbers st (flownBy (suc left) from f numbers)
   unfolding flownBy
   turn left go-on m from f numbers st r o =
@@ -143,7 +143,7 @@ module _ (p : Plan) (c : Claims) where
   first (ends t y steps startups) u h l = absurd u
   first exceeds u h l = absurd u
 
-abbrev claims : Plan → Claims
+abbrev pub claims : Plan → Claims
 claims p = clockwork p (fateOf p)
 
 begins-so : (v : Verdict) (p : Plan) (r0 v0 : Triple) → Asked p (claims p) 0 0 0 (beginBy v p r0 v0) (storyBy v p r0 v0) ⊎ Ended p (claims p) (beginBy v p r0 v0) (storyBy v p r0 v0)
@@ -152,15 +152,15 @@ begins-so Fine p r0 v0 = inl (first p (claims p) (integrate p r0 v0) tt (by-the-
 begins-so (Refuse e) p r0 v0 = inr (record { said = refl; tale = refl })
 
 module _ (s : Settings) (t0 tf : Float) (r0 v0 : Triple) where
-  abbrev pub p : Plan
-  p = planOf s t0 tf
+  abbrev pub plan : Plan
+  plan = planOf s t0 tf
 
-  pub start-tells : Tells p (claims p) 0 (takenOff s t0 tf r0 v0) (storyOf s t0 tf r0 v0)
+  pub start-tells : Tells plan (claims plan) 0 (takenOff s t0 tf r0 v0) (storyOf s t0 tf r0 v0)
   unfolding takenOff storyOf begun begin
   start-tells =
       let b = begins s t0 tf r0 v0 in
-      arrives p (claims p) 0 0 0 (started s t0 tf r0 v0) (begin s t0 tf r0 v0) (storyOf s t0 tf r0 v0)
-      (ap (λ (x : Stop). x .said) b) (ap (λ (x : Stop). x .line) b) (omega arith) (begins-so (verdictOn p) p r0 v0)
+      arrives plan (claims plan) 0 0 0 (started s t0 tf r0 v0) (begin s t0 tf r0 v0) (storyOf s t0 tf r0 v0)
+      (ap (λ (x : Stop). x .said) b) (ap (λ (x : Stop). x .line) b) (omega arith) (begins-so (verdictOn plan) plan r0 v0)
 
   pub tells-the-story : (rooms : List (List Float)) → TellsTheStory s t0 tf r0 v0 rooms
   tells-the-story rooms =
@@ -173,10 +173,10 @@ module _ (s : Settings) (t0 tf : Float) (r0 v0 : Triple) where
       f : Flight
       f = takenOff s t0 tf r0 v0
 
-      x : Through p (claims p) 0 f rooms (storyOf s t0 tf r0 v0)
-      x = through p (claims p) rooms 0 f (storyOf s t0 tf r0 v0) start-tells
+      x : Through plan (claims plan) 0 f rooms (storyOf s t0 tf r0 v0)
+      x = through plan (claims plan) rooms 0 f (storyOf s t0 tf r0 v0) start-tells
 
-      over : flownThrough f rooms .asks ≡ false → Tells p (claims p) 0 (flownThrough f rooms) (x .left)
+      over : flownThrough f rooms .asks ≡ false → Tells plan (claims plan) 0 (flownThrough f rooms) (x .left)
           → record { samples = allHandedOut f rooms; ending = flownThrough f rooms .ending } ≡ storyOf s t0 tf r0 v0
       over e (inl o) = absurd (false≢true (sym e ∙ o .asks-on))
       over e (inr o) =

@@ -1,3 +1,5 @@
 pub mod Story
 pub mod Flight
 pub mod Told
+pub mod Ends
+pub mod OnTime
