@@ -26,7 +26,7 @@ use Rattle.rules.proofs.Calls.{call-is}
 use Rattle.counting.specs.Paths.{Claims}
 use Rattle.point_mass.specs.Force.{distance, isTooLow, pull, pullAt}
 use Rattle.flight.specs.declared.Flight.{Flight}
-use Rattle.flight.specs.Flight.{landed, flightOf, flownAfter, answeredOnce}
+use Rattle.flight.specs.Flight.{landed, flightOf, flownAfter, answeredBy, answeredOnce}
 use Rattle.flight.specs.Story.{Story, numbered, nothingMore, story}
 use Rattle.flight.proofs.Once.{once-low, once-high}
 use Rattle.flight.proofs.Rows.{same-room}
@@ -98,7 +98,7 @@ module _ (p : Plan) (c : Claims) (m from : ℕ) (f : Flight) (numbers : List Flo
       })
 
   high-goes : isTooLow (distance (f .question .r)) ≡ false → Goes p c (m + 1) from f numbers st (answeredOnce from f numbers)
-  unfolding flownAfter seen pullAt
+  unfolding answeredBy flownAfter seen pullAt
   high-goes h =
       let e = enough in
       let b = begun in

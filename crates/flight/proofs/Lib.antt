@@ -9,3 +9,4 @@ pub mod Answering
 pub mod Telling
 pub mod Ending
 pub mod OnTime
+pub mod Turns

@@ -6,18 +6,15 @@ use mathlib.Core.List.{List}
 use lib.Ieee.{Float}
 use Rattle.refusals.specs.Numbers.{numberOf}
 use Rattle.refusals.specs.declared.Refusal.the-variants.{TooLow}
-use Rattle.run.specs.Samples.{tens}
-use Rattle.gauss_jackson.specs.Answers.{answered}
 use Rattle.point_mass.specs.Force.{pullAt}
 use Rattle.flight.specs.declared.Flight.{Flight}
-use Rattle.flight.specs.Flight.{Flown, landed, flownAfter, answeredBy, answeredOnce}
+use Rattle.flight.specs.Flight.{Flown, landed, answeredBy, answeredOnce}
 
 module _ (from : ℕ) (f : Flight) (numbers : List Float) where
   pub once-low : pullAt (f .question .r) .low ≡ true → answeredOnce from f numbers ≡ record { flight = landed (f .run) (f .next) (numberOf TooLow); out = numbers }
-  unfolding answeredOnce answeredBy
+  unfolding answeredOnce
   once-low h = rw h
 
-  pub once-high : pullAt (f .question .r) .low ≡ false
-      → answeredOnce from f numbers ≡ flownAfter (f .next) (answered (f .run) (f .question .number) (pullAt (f .question .r) .a) (tens from numbers))
-  unfolding answeredOnce answeredBy
+  pub once-high : pullAt (f .question .r) .low ≡ false → answeredOnce from f numbers ≡ answeredBy (pullAt (f .question .r) .a) from f numbers
+  unfolding answeredOnce
   once-high h = rw h

@@ -19,7 +19,6 @@ use Rattle.gauss_jackson.specs.declared.Outcome.{Outcome}
 use Rattle.gauss_jackson.specs.declared.Outcome.the-variants.{Ask, Done, Refused}
 use Rattle.gauss_jackson.specs.declared.Answered.{Answered}
 use Rattle.gauss_jackson.specs.Answers.{Given, started, answered}
-use Rattle.point_mass.specs.declared.force.Pulled.{Pulled}
 use Rattle.point_mass.specs.Force.{pullAt}
 use Rattle.flight.specs.declared.Flight.{Flight}
 
@@ -49,14 +48,15 @@ pub record Flown : Type 0 where
 unfoldable pub flownAfter : (next : ℕ) → Given → Flown
 flownAfter next g = record { flight = flightOf (next + g .got .stored) (g .got); out = numbersOf (g .out) }
 
-unfoldable pub answeredBy : Pulled → (from : ℕ) → Flight → List Float → Flown
-answeredBy p from f numbers =
-    cond (p .low)
-    (record { flight = landed (f .run) (f .next) (numberOf TooLow); out = numbers })
-    (flownAfter (f .next) (answered (f .run) (f .question .number) (p .a) (tens from numbers)))
+unfoldable pub answeredBy : Triple → (from : ℕ) → Flight → List Float → Flown
+answeredBy a from f numbers = flownAfter (f .next) (answered (f .run) (f .question .number) a (tens from numbers))
 
 unfoldable pub answeredOnce : (from : ℕ) → Flight → List Float → Flown
-answeredOnce from f numbers = answeredBy (pullAt (f .question .r)) from f numbers
+answeredOnce from f numbers =
+    let p = pullAt (f .question .r) in
+    cond (p .low)
+    (record { flight = landed (f .run) (f .next) (numberOf TooLow); out = numbers })
+    (answeredBy (p .a) from f numbers)
 
 -- ---- a piece: while a question is open and the next five samples have their place, so many answers at most
 -- above the number of any sample of a run, so that the next number can be told

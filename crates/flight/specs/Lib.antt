@@ -3,3 +3,4 @@ pub mod Flight
 pub mod Told
 pub mod Ends
 pub mod OnTime
+pub mod Parts

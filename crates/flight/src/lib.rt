@@ -11,7 +11,9 @@ use run::samples;
 use triple::Triple;
 ghost use mathlib.Core.Path.{_≡_};
 ghost use Prim.Native.Nat.{_<_};
-ghost use Rattle.flight.specs.Flight.{beyond, landed, flightOf, takenOff, answeredOnce, isReady, flownOn};
+ghost use Rattle.flight.specs.Flight.{beyond, landed, flightOf, takenOff, answeredBy, isReady, flownOn};
+
+mod parts;
 
 // At most so many answers in a piece, so that each call comes back soon.
 const PIECE: u64 = 4096;
@@ -95,34 +97,56 @@ fn is_ready(asks: bool, from: u64, next: u64, room: usize) -> bool
     next < BEYOND
 }
 
-// One question answered by the pull there, or the end by 15.
-fn answer_once(flight: Flight, from: u64, out: &mut [f64]) -> Flight
+// One question answered the plain way.
+fn answer_plainly(flight: Flight, a: Triple, from: u64, out: &mut [f64]) -> Flight
     requires { ⌜ flight .next < beyond ⌝ }
-    ensures { λ f. ⌜ (f ≡ answeredOnce from flight (now (out .entry)) .flight) × (now (out .exit) ≡ answeredOnce from flight (now (out .entry)) .out) ⌝ }
+    ensures { λ f. ⌜ (f ≡ answeredBy a from flight (now (out .entry)) .flight) × (now (out .exit) ≡ answeredBy a from flight (now (out .entry)) .out) ⌝ }
 {
     let next = flight.next;
     let run = flight.run;
-    let pulled = force::pull_at(flight.question.r);
-    if pulled.low {
-        return land(run, next, TOO_LOW);
-    }
-    let done = gauss_jackson::answer(run, flight.question.number, pulled.a, from, out);
+    let done = gauss_jackson::answer(run, flight.question.number, a, from, out);
     flight_of(next + done.stored, done)
 }
 
-// On by a piece, with one room lent for it, whose first ten numbers are those of sample `flight.next`.
+// On by a piece, with one room lent for it, whose first ten numbers are those of sample `flight.next`. The answers that come most often go by
+// the parts of the run that they change, so that the run is not copied at each.
 pub fn fly_on(flight: Flight, out: &mut [f64]) -> Flight
     ensures { λ f. ⌜ (f ≡ flownOn flight (now (out .entry)) .flight) × (now (out .exit) ≡ flownOn flight (now (out .entry)) .out) ⌝ }
 {
     let from = flight.next;
     let mut f = flight;
+    let mut parts = parts::parts_of(f);
     let mut left = PIECE;
     while left > 0 {
-        if !is_ready(f.asks, from, f.next, out.len()) {
-            return f;
+        if !is_ready(f.asks, from, parts.next, out.len()) {
+            return parts::together(f, parts);
         }
-        f = answer_once(f, from, out);
         left -= 1;
+        let pulled = force::pull_at(parts.question.r);
+        if pulled.low {
+            return land(parts::together(f, parts).run, parts.next, TOO_LOW);
+        }
+        let look = fastpath::look_at(
+            parts.mark,
+            f.run.body.plan,
+            parts.track,
+            parts.trial,
+            f.run.body.startup_iters,
+            parts.question.number,
+            pulled.a,
+            from,
+            out.len(),
+        );
+        if look.again {
+            parts = parts::try_again(parts, look, f.run.body.plan);
+            continue;
+        }
+        if look.on {
+            parts = parts::step_on(parts, look, f.run.body.plan, pulled.a, from, out);
+            continue;
+        }
+        f = answer_plainly(parts::together(f, parts), pulled.a, from, out);
+        parts = parts::parts_of(f);
     }
-    f
+    parts::together(f, parts)
 }

@@ -1,52 +1,105 @@
--- `fly_on` is `flownOn`: what is left to do leads where the whole leads.
+-- `fly_on` is `flownOn`: what is left to do, from the flight with its parts in their places, leads where the whole leads.
 use mathlib.Core.Path.{_≡_, refl, sym, ap, _∙_}
-use mathlib.Core.Bool.{true}
+use Prim.Native.Nat.{_≤_}
 use native.Mathlib.Omega.{arith}
 use borrow.Author.Needs.{needs}
 use borrow.Author.Tests.{not-true, not-false}
 use lib.ListN.{length}
-use Rattle.flight.specs.Flight.{Flown, piece, isReady, flownBy, flownOn}
-use Rattle.flight.proofs.Pieces.{flown-more, flown-stops, flown-up, ready-is}
+use Rattle.flight.specs.Flight.{Flown, piece, flownBy, flownOn}
+use Rattle.flight.specs.Parts.{together}
+use Rattle.flight.proofs.Pieces.{flown-stops, flown-up, ready-is}
+use Rattle.flight.proofs.Turns.{whole, turned-low, turned-plainly, turned-again, turned-on}
 use Rattle.flight.proofs.fly_on.Statement.{statement}
 use Rattle.flight.proofs.fly_on.Tie as tie
 
 abbrev Inv-loop : tie.InvT-loop
-Inv-loop out₀ from f₀ left₀ out f left = (length out ≡ length out₀) × (flownBy left from f out ≡ flownBy piece from f₀ out₀)
+Inv-loop out₀ from f₀ parts₀ left₀ out f parts left = (length out ≡ length out₀) × (flownBy left from (together f parts) out ≡ flownBy piece from f₀ out₀)
 
 abbrev μ-loop : tie.MeasureT-loop
-μ-loop out₀ from f₀ left₀ out f left = left
+μ-loop out₀ from f₀ parts₀ left₀ out f parts left = left
 
 loop-holds : tie.Need-loop-holds Inv-loop μ-loop
-loop-holds c = (refl, refl)
+loop-holds c = (refl, rw (c .parts-of .ensures, whole _))
 
+-- ---- no further question is answered here
 same-length : tie.Need-same-length Inv-loop μ-loop
-same-length c = c .before .before .before .loop .inv .0
+same-length c = c .before .before .before .before .loop .inv .0
 
 returns : tie.Need-returns Inv-loop μ-loop
-unfolding flownOn
+unfolding flownOn together
 returns c =
-    let h = sym (flown-stops _ _ _ _ (sym (c .before .is-ready .ensures) ∙ not-true _ (c .if1 .taken))) ∙ c .before .before .before .loop .inv .1 in
-    (ap (λ (g : Flown). g .flight) h, ap (λ (g : Flown). g .out) h)
+    let at = c .before .before .before .before in
+    let h = sym (flown-stops _ _ _ _ (sym (c .before .before .is-ready .ensures) ∙ not-true _ (c .before .if1 .taken))) ∙ at .loop .inv .1 in
+    (c .together .ensures ∙ ap (λ (g : Flown). g .flight) h, ap (λ (g : Flown). g .out) h)
 
-answer-once-requires : tie.Need-answer-once-requires Inv-loop μ-loop
-answer-once-requires c κs = ready-is _ _ _ _ (sym (c .before .before .is-ready .ensures) ∙ not-false _ (c .before .if1 .left)) .2
-
-loop-again : tie.Need-loop-again Inv-loop μ-loop
-loop-again c =
-    let past = c .before .before .before .before .before in
-    let h = flown-more _ _ _ _ (past .before .loop-test .taken) (sym (past .is-ready .ensures) ∙ not-false _ (c .before .before .before .before .if1 .left)) in (
-      omega (arith, c .before .before .answer-once .kept, past .before .before .loop .inv .0),
-      rw (c .before .before .answer-once .ensures .0, c .before .before .answer-once .ensures .1) (sym h ∙ past .before .before .loop .inv .1),
-    )
-
+-- ---- too low
 same-length-2 : tie.Need-same-length-2 Inv-loop μ-loop
-same-length-2 c = c .before .loop .inv .0
+same-length-2 c = c .before .before .before .before .before .before .before .loop .inv .0
 
 returns-2 : tie.Need-returns-2 Inv-loop μ-loop
 unfolding flownOn
 returns-2 c =
-    let h = sym (flown-up _ _ _ _ (c .loop-test .left)) ∙ c .before .loop .inv .1 in
-    (ap (λ (g : Flown). g .flight) h, ap (λ (g : Flown). g .out) h)
+    let at = c .before .before .before .before .before in
+    let h = sym (turned-low _ _ _ _ _ _ (at .before .loop-test .taken) (sym (at .is-ready .ensures) ∙ not-false _ (c .before .before .before .before .if1 .left)) (c .before .before .before .pull-at .ensures) (c .before .before .if2 .taken)) ∙ at .before .before .loop .inv .1 in
+    (c .land .ensures ∙ rw (c .before .together2 .ensures) (ap (λ (g : Flown). g .flight) h), ap (λ (g : Flown). g .out) h)
+
+-- ---- once more
+loop-again : tie.Need-loop-again Inv-loop μ-loop
+loop-again c =
+    let at = c .before .before .before .before .before .before in (
+      at .before .before .loop .inv .0,
+      rw (c .try-again .ensures)
+          (sym (turned-again _ _ _ _ _ _ (at .before .loop-test .taken) (sym (at .is-ready .ensures) ∙ not-false _ (c .before .before .before .before .before .if1 .left)) (c .before .before .before .before .pull-at .ensures)
+          (c .before .before .before .if2 .left) _ (c .before .before .look-at .ensures) (c .before .if3 .taken)) ∙ at .before .before .loop .inv .1),
+    )
+
+-- ---- on
+step-on-requires : tie.Need-step-on-requires Inv-loop μ-loop
+step-on-requires c κs =
+    let at = c .before .before .before .before .before .before in
+    ready-is _ _ _ _ (sym (at .before .is-ready .ensures) ∙ not-false _ (at .if1 .left)) .2
+
+loop-again-2 : tie.Need-loop-again-2 Inv-loop μ-loop
+loop-again-2 c =
+    let look = c .before .before .before .before .before .before in
+    let at = look .before .before .before .before in (
+      omega (arith, c .before .before .step-on .kept, at .before .before .loop .inv .0),
+      rw (c .before .before .step-on .ensures .0, c .before .before .step-on .ensures .1)
+          (sym (turned-on _ _ _ _ _ _ (at .before .loop-test .taken) (sym (at .is-ready .ensures) ∙ not-false _ (look .before .before .before .if1 .left)) (look .before .before .pull-at .ensures)
+          (look .before .if2 .left) _ (look .look-at .ensures) (c .before .before .before .before .if4 .taken)) ∙ at .before .before .loop .inv .1),
+    )
+
+-- ---- the plain way
+answer-plainly-requires : tie.Need-answer-plainly-requires Inv-loop μ-loop
+unfolding together
+answer-plainly-requires c κs =
+    let at = c .before .before .before .before .before .before .before in
+    rw (c .before .together3 .ensures) (ready-is _ _ _ _ (sym (at .before .is-ready .ensures) ∙ not-false _ (at .if1 .left)) .2)
+
+loop-less-3 : tie.Need-loop-less-3 Inv-loop μ-loop
+loop-less-3 c =
+    let at = c .before .before .before .before .before .before .before in
+    omega (arith, at .before .before .before .before .before .before .loop-test .taken)
+
+loop-again-3 : tie.Need-loop-again-3 Inv-loop μ-loop
+loop-again-3 c =
+    let past = c .before .before .before .before .before .before .before .before .before in
+    let at = past .before .before .before in
+    let done = c .before .before .before .answer-plainly in (
+      omega (arith, done .kept, at .before .before .loop .inv .0),
+      rw (c .parts-of2 .ensures, whole _, done .ensures .0, done .ensures .1, c .before .before .before .before .before .together3 .ensures)
+          (sym (turned-plainly _ _ _ _ _ _ (at .before .loop-test .taken) (sym (at .is-ready .ensures) ∙ not-false _ (past .before .before .if1 .left)) (past .before .pull-at .ensures) (past .if2 .left)) ∙ at .before .before .loop .inv .1),
+    )
+
+-- ---- the piece is used up
+same-length-3 : tie.Need-same-length-3 Inv-loop μ-loop
+same-length-3 c = c .before .before .loop .inv .0
+
+returns-3 : tie.Need-returns-3 Inv-loop μ-loop
+unfolding flownOn
+returns-3 c =
+    let h = sym (flown-up _ _ _ _ (c .before .loop-test .left)) ∙ c .before .before .loop .inv .1 in
+    (c .together4 .ensures ∙ ap (λ (g : Flown). g .flight) h, ap (λ (g : Flown). g .out) h)
 
 pub fly-on-spec : {M : Type 1} → statement M
 fly-on-spec =
@@ -54,13 +107,30 @@ fly-on-spec =
     (tie.spec
     Inv-loop
     μ-loop
+    (λ c κs. search needs)
     loop-holds
+    (λ c κs. search needs)
     (λ c κs. search needs)
     same-length
     returns
-    answer-once-requires
     (λ c. search needs)
+    (λ c κs. search needs)
+    (λ c κs. search needs)
+    (λ c κs. search needs)
+    same-length-2
+    returns-2
+    (λ c κs. search needs)
+    (λ c κs. search needs)
     (λ c. search needs)
     loop-again
-    same-length-2
-    returns-2)
+    step-on-requires
+    (λ c. search needs)
+    loop-again-2
+    (λ c κs. search needs)
+    answer-plainly-requires
+    (λ c κs. search needs)
+    loop-less-3
+    loop-again-3
+    (λ c κs. search needs)
+    same-length-3
+    returns-3)
