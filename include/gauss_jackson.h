@@ -7,9 +7,11 @@
  *     gj_run run;
  *     gj_reply reply = gj_start(&run, settings, t0, tf, r0, v0);
  *     while (reply.kind == GJ_ASK)
- *         reply = gj_answer(&run, reply.number, force(reply.t, reply.r, reply.v), samples, 10 * (steps + 1));
+ *         reply = gj_answer(&run, reply.number, force(reply.t, reply.r, reply.v), 0, samples, 10 * (steps + 1));
  *     if (reply.kind == GJ_DONE) ... reply.t, reply.r, reply.v; reply.steps + 1 samples stand ...
  *     else ... reply.refusal, in words gj_refusal_text(reply.refusal) ...
+ *
+ * A room of fifty numbers, used again and again, is enough too: gj_answer has how.
  *
  * Where t0, tf and the step are whole numbers, gj_forecast tells beforehand what a run takes: steps, room, answers. gj_start_whole starts
  * one and tells the same; what it accepts always finishes.
@@ -59,12 +61,12 @@
  * link with an older library: "undefined reference to gj_store", or from 0.7.0 on to gj_forecast. A refusal that is added is a number for
  * which an older header has no name: 12, from 0.4.0 on; 13 and 14, from 0.7.0 on, which only the calls of that version give.
  *
- * GJ_ABI is 2 from 0.5.0 on: an interpolation tells the acceleration too, GJ_BETWEEN_NUMBERS a time, nine where they were six. An output of
- * six is refused (9), so no older caller's memory could be overrun. But one that has more room, kept for many times perhaps, would find its
- * numbers in other places and read an acceleration as a position. So a program built with an older header does not link: "undefined
- * reference to gj_abi_1". */
-#define GJ_VERSION "0.7.0"
-#define GJ_ABI 2
+ * GJ_ABI is 3 from 0.8.0 on: an answer names the sample that its room begins at, and each reply tells how many samples the call stored, in
+ * a field that stands before `kind`. A program built with an older header would hand its buffer over as that number, and find a reply
+ * written past its end. So it does not link: "undefined reference to gj_abi_2". With 0 for the new argument it does what it did.
+ * It was 2 from 0.5.0 on, where an interpolation began to tell the acceleration too: nine numbers a time, GJ_BETWEEN_NUMBERS, not six. */
+#define GJ_VERSION "0.8.0"
+#define GJ_ABI 3
 
 #ifdef __cplusplus
 #define GJ_HOLDS(fact, said) static_assert(fact, said)
@@ -82,26 +84,7 @@ enum {
     GJ_REFUSED = 2  /* a refusal: its number */
 };
 
-/* Refusals. What is left of a run: "no run" and "ended" are one and the same ended run, which answers 7 from then on. */
-enum {
-    GJ_STEP_NOT_FINITE = 1,       /* start, forecast: the span is shorter than eight steps; start: the step is zero; no run, no sample */
-    GJ_MAX_STEPS_EXCEEDED = 2,    /* answer: a further step is due and max_steps are made; ended. max_steps + 1 samples stand (at least 5) */
-    GJ_NO_DENSE_OUTPUT = 3,       /* interpolation: fewer than two samples; the output is untouched */
-    GJ_INTERP_OUT_OF_BOUNDS = 4,  /* interpolation: a time outside the samples; the output is untouched, for a batch wholly */
-    GJ_SETTING = 5,               /* start, forecast: a setting over its limit; no run, no sample */
-    GJ_SAMPLE_ROOM = 6,           /* answer: the samples due now do not all fit; ended. This call writes none, earlier ones stand: with
-                                     room for n samples at every call n of them, none if n is below 5 */
-    GJ_NO_QUESTION = 7,           /* answer, open question, storing: the run has ended, or is made up; run, samples, bytes unchanged */
-    GJ_NOT_THAT_QUESTION = 8,     /* answer: the number is not the open question's; run and samples unchanged, answer again */
-    GJ_SHAPE = 9,                 /* interpolation: samples not in tens, or output below GJ_BETWEEN_NUMBERS a time; untouched */
-    GJ_STORED_SHAPE = 10,         /* storing: the buffer has not GJ_STORED_SIZE bytes; untouched. Loading: not GJ_STORED_SIZE bytes, or a
-                                     block's number or check is wrong: cut short, damaged, another file; the run is as it was */
-    GJ_STORED_CONTENT = 11,       /* loading: whole blocks, but another form number, or what no run is; the run is as it was */
-    GJ_BLANK_DATE = 12,           /* start, forecast: t0, tf or the step is a NaN or an infinity; no run, no sample */
-    GJ_NOT_WHOLE = 13,            /* whole-second start, forecast: t0, tf or the step is no whole number; t0 or tf is above GJ_FARTHEST in
-                                     size, or the step's size not from 1 to GJ_LONGEST_STEP; no run, no sample */
-    GJ_TOO_FEW_STEPS = 14         /* whole-second start, forecast: max_steps is below the steps that the run takes; no run, no sample */
-};
+#include "gauss_jackson_refusals.h" /* 1 to 19, by name and in words: gj_refusal_text */
 
 /* Limits of the settings. */
 enum {
@@ -143,7 +126,7 @@ GJ_AT(gj_settings, max_startup_iters, 32);
 GJ_AT(gj_settings, max_steps, 40);
 GJ_AT(gj_settings, samples, 48);
 
-/* What a call tells. What its kind has no use for is zero. */
+/* What a call tells. What its kind has no use for is zero; `stored` is told with every kind. */
 typedef struct gj_reply {
     double t;
     gj_triple r;
@@ -151,20 +134,22 @@ typedef struct gj_reply {
     uint64_t evals;          /* answers accepted, in the finished state */
     uint64_t steps;          /* steps made */
     uint64_t startup_iters;  /* startup passes made */
+    uint64_t stored;         /* samples that this call stored: 0, 1 or 5, and 0 of a call that is no answer. Their sum is the next one's number */
     uint32_t kind;           /* GJ_ASK, GJ_DONE or GJ_REFUSED */
     uint16_t refusal;        /* 1 to 14, by the names above */
     uint16_t number;         /* the question's number: answer under it; after 65,535 comes 0 */
 } gj_reply;
-GJ_SIZE(gj_reply, 88);
+GJ_SIZE(gj_reply, 96);
 GJ_AT(gj_reply, t, 0);
 GJ_AT(gj_reply, r, 8);
 GJ_AT(gj_reply, v, 32);
 GJ_AT(gj_reply, evals, 56);
 GJ_AT(gj_reply, steps, 64);
 GJ_AT(gj_reply, startup_iters, 72);
-GJ_AT(gj_reply, kind, 80);
-GJ_AT(gj_reply, refusal, 84);
-GJ_AT(gj_reply, number, 86);
+GJ_AT(gj_reply, stored, 80);
+GJ_AT(gj_reply, kind, 88);
+GJ_AT(gj_reply, refusal, 92);
+GJ_AT(gj_reply, number, 94);
 
 #include "gauss_jackson_run.h" /* gj_run: 1,056 bytes of plain data */
 
@@ -180,11 +165,26 @@ gj_reply gj_start(gj_run *run, gj_settings settings, double t0, double tf, gj_tr
  * where it stands. Refusals 7, 8, 6, 2, judged in this order. An answer exactly 65,536 questions late has the open question's number and
  * is not noticed.
  *
- * `out` is the sample buffer, `count` its numbers; it is the caller's, lent for the call. With samples, sample n goes to
- * numbers 10n to 10n+9 of it (counted from `out` at every call), and nothing else of it is written. Samples 0 to 4 come with the
- * last answer of the startup, then one a step: a run of K steps fills K+1 samples, so 10(K+1) numbers are enough. For
- * whole-number times K is the span over the step, rounded up: gj_forecast tells it. Numbers written by earlier calls are never read. */
-gj_reply gj_answer(gj_run *run, uint16_t number, gj_triple a, double *out, size_t count);
+ * `out` is the room for samples, `count` its numbers, and `from` the number of the sample that it begins at. It is the caller's, lent for
+ * the call. With samples, sample n goes to the ten numbers from 10(n - from) on, counted from `out`, and nothing else of it is written.
+ * Samples 0 to 4 come with the last answer of the startup, then one a step. Numbers written by earlier calls are never read, and the run
+ * keeps nothing of the room: each call may lend another, and begin it elsewhere.
+ *   - One room for all samples: lend it with from = 0 at every call. A run of K steps fills K+1 samples, so 10(K+1) numbers are enough.
+ *     For whole-number times K is the span over the step, rounded up: gj_forecast tells it.
+ *   - A small room, used again: fifty numbers that begin at the number of samples stored so far. Whatever is due fits at every call, and
+ *     what a call stored stands at its beginning, reply.stored samples of it. Look at them before the kind: the last ones come with the
+ *     finished state, or with refusal 2.
+ *
+ *         double room[5 * GJ_SAMPLE_NUMBERS];
+ *         uint64_t so_far = 0;
+ *         while (reply.kind == GJ_ASK) {
+ *             reply = gj_answer(&run, reply.number, force(reply.t, reply.r, reply.v), so_far, room, 5 * GJ_SAMPLE_NUMBERS);
+ *             ... samples so_far to so_far + reply.stored - 1 stand in room ...
+ *             so_far += reply.stored;
+ *         }
+ *
+ *   - A sample before `from` has no place: where one is due, or not all that are due fit, it is refusal 6. */
+gj_reply gj_answer(gj_run *run, uint16_t number, gj_triple a, uint64_t from, double *out, size_t count);
 
 /* The question that the run waits for, once more, or refusal 7. The run is only read. */
 gj_reply gj_open_question(const gj_run *run);
@@ -198,7 +198,8 @@ gj_reply gj_open_question(const gj_run *run);
  *     gj_run run = {0};                                      -- an ended run, where the app holds none yet
  *     gj_reply reply = gj_load(&run, form, bytes_read);      -- GJ_ASK: the open question; go on as after a start
  *
- * Samples are not in the form: the app keeps its sample buffer itself and lends it again, or another one of the same room. The bytes are
+ * Samples are not in the form, nor where a room begins: the app keeps its sample buffer itself and lends it again, or another one of the
+ * same room; with a small one it keeps the number of samples stored so far beside the form. The bytes are
  * little-endian and the same on every tablet; docs/STORED.md has each of them, and later versions take them too. Every NaN is stored as
  * 0x7ff8000000000000, whatever its bits were; all other floats by their bits.
  *
@@ -230,7 +231,7 @@ uint32_t gj_interpolate(double t, const double *samples, size_t n, double *out, 
  * meaningless number, read off a later curve, and no refusal. Sort the times first. */
 uint32_t gj_interpolate_batch(const double *times, size_t k, const double *samples, size_t n, double *out, size_t m);
 
-#include "gauss_jackson_help.h" /* gj_refusal_text; and that this header and the library linked are of one GJ_ABI */
+#include "gauss_jackson_help.h" /* that this header and the library linked are of one GJ_ABI */
 
 #undef GJ_AT
 #undef GJ_SIZE

@@ -3,7 +3,7 @@
 
 extern "C" {
     // The number stands here, and nowhere else in the crate; it goes up with the header's GJ_ABI.
-    #[link_name = "gj_abi_2"]
+    #[link_name = "gj_abi_3"]
     fn abi() -> u32;
 }
 

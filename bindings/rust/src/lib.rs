@@ -1,6 +1,7 @@
 // SPDX-License-Identifier: MIT OR Apache-2.0
 //! A safe face of a proved orbit stepper, the Gauss-Jackson method of eighth order. **You bring the force:** there is none inside. A run asks
-//! for accelerations, one question at a time; [`Run::answer`] answers one, [`Run::drive`] all of them.
+//! for accelerations, one question at a time; [`Run::answer`] answers one, [`Run::drive`] all of them. Where memory is short,
+//! [`Run::answer_from`] needs room for five samples only, used again and again.
 //!
 //! ```
 //! use gauss_jackson::{interpolate, Run, Sample, Settings, Triple};
@@ -91,7 +92,7 @@ pub use drive::Finished;
 pub use order::{first_out_of_order, interpolate_in_any_order};
 pub use raw::{Triple, BETWEEN_NUMBERS};
 pub use refusal::Refusal;
-pub use run::{Reply, Run};
+pub use run::{Answered, Reply, Run};
 pub use sample::{numbers_for, Sample, SAMPLE_NUMBERS};
 pub use settings::Settings;
 pub use stored::STORED_SIZE;

@@ -45,6 +45,7 @@ pub struct Reply {
     pub evals: u64,
     pub steps: u64,
     pub startup_iters: u64,
+    pub stored: u64,
     pub kind: u32,
     pub refusal: u16,
     pub number: u16,
@@ -90,7 +91,7 @@ extern "C" {
     pub fn gj_start(run: *mut Run, settings: Settings, t0: f64, tf: f64, r0: Triple, v0: Triple) -> Reply;
     pub fn gj_forecast(settings: Settings, t0: f64, tf: f64) -> CostReply;
     pub fn gj_start_whole(run: *mut Run, settings: Settings, t0: f64, tf: f64, r0: Triple, v0: Triple) -> WholeReply;
-    pub fn gj_answer(run: *mut Run, number: u16, a: Triple, out: *mut f64, count: usize) -> Reply;
+    pub fn gj_answer(run: *mut Run, number: u16, a: Triple, from: u64, out: *mut f64, count: usize) -> Reply;
     pub fn gj_open_question(run: *const Run) -> Reply;
     pub fn gj_store(run: *const Run, out: *mut u8, out_bytes: usize) -> u32;
     pub fn gj_load(run: *mut Run, bytes: *const u8, bytes_count: usize) -> Reply;
@@ -123,10 +124,10 @@ mod tests {
     fn sizes_are_the_headers() {
         assert_eq!((size_of::<Triple>(), align_of::<Triple>()), (24, 8));
         assert_eq!((size_of::<Settings>(), align_of::<Settings>()), (56, 8));
-        assert_eq!((size_of::<Reply>(), align_of::<Reply>()), (88, 8));
+        assert_eq!((size_of::<Reply>(), align_of::<Reply>()), (96, 8));
         assert_eq!((size_of::<Cost>(), align_of::<Cost>()), (40, 8));
         assert_eq!((size_of::<CostReply>(), align_of::<CostReply>()), (48, 8));
-        assert_eq!((size_of::<WholeReply>(), align_of::<WholeReply>()), (128, 8));
+        assert_eq!((size_of::<WholeReply>(), align_of::<WholeReply>()), (136, 8));
         assert_eq!((size_of::<Run>(), align_of::<Run>()), (1056, 8));
     }
 
@@ -147,7 +148,8 @@ mod tests {
     fn replies_stand_as_in_the_header() {
         assert_eq!([offset!(Reply, t), offset!(Reply, r), offset!(Reply, v)], [0, 8, 32]);
         assert_eq!([offset!(Reply, evals), offset!(Reply, steps), offset!(Reply, startup_iters)], [56, 64, 72]);
-        assert_eq!([offset!(Reply, kind), offset!(Reply, refusal), offset!(Reply, number)], [80, 84, 86]);
+        assert_eq!(offset!(Reply, stored), 80);
+        assert_eq!([offset!(Reply, kind), offset!(Reply, refusal), offset!(Reply, number)], [88, 92, 94]);
         assert_eq!([offset!(Triple, x), offset!(Triple, y), offset!(Triple, z)], [0, 8, 16]);
     }
 
@@ -156,6 +158,6 @@ mod tests {
         assert_eq!([offset!(Cost, steps), offset!(Cost, samples), offset!(Cost, numbers)], [0, 8, 16]);
         assert_eq!([offset!(Cost, least), offset!(Cost, most)], [24, 32]);
         assert_eq!([offset!(CostReply, cost), offset!(CostReply, refusal)], [0, 40]);
-        assert_eq!([offset!(WholeReply, reply), offset!(WholeReply, cost)], [0, 88]);
+        assert_eq!([offset!(WholeReply, reply), offset!(WholeReply, cost)], [0, 96]);
     }
 }

@@ -21,7 +21,7 @@ pub enum Refusal {
     InterpOutOfBounds,
     /// At a start or a forecast: a setting over its limit.
     Setting,
-    /// At an answer: the samples due now do not all fit. The run has ended; this call wrote none.
+    /// At an answer: the samples due now do not all fit, or the first of them stands before the room's. The run has ended; this call wrote none.
     SampleRoom,
     /// At an answer, for the open question or at a storing: the run has ended.
     NoQuestion,
@@ -39,31 +39,38 @@ pub enum Refusal {
     NotWhole,
     /// At a whole-second start or a forecast: `max_steps` is below the steps that the run takes.
     TooFewSteps,
+    /// No call of the library gives it. The program `forecast`: a question's distance is below 1 km, or NaN.
+    TooLow,
+    /// Nor this. The program `forecast`: a line of its input is missing, one too many, or misshapen.
+    InputLine,
     /// A number that this crate has no name for: the library is newer than the crate.
     Other(u16),
 }
 
-const NAMED: [Refusal; 14] = [
-    Refusal::StepNotFinite,
-    Refusal::MaxStepsExceeded,
-    Refusal::NoDenseOutput,
-    Refusal::InterpOutOfBounds,
-    Refusal::Setting,
-    Refusal::SampleRoom,
-    Refusal::NoQuestion,
-    Refusal::NotThatQuestion,
-    Refusal::Shape,
-    Refusal::StoredShape,
-    Refusal::StoredContent,
-    Refusal::BlankDate,
-    Refusal::NotWhole,
-    Refusal::TooFewSteps,
+/// Each with its number; 16 to 18 are nobody's yet.
+const NAMED: [(u16, Refusal); 16] = [
+    (1, Refusal::StepNotFinite),
+    (2, Refusal::MaxStepsExceeded),
+    (3, Refusal::NoDenseOutput),
+    (4, Refusal::InterpOutOfBounds),
+    (5, Refusal::Setting),
+    (6, Refusal::SampleRoom),
+    (7, Refusal::NoQuestion),
+    (8, Refusal::NotThatQuestion),
+    (9, Refusal::Shape),
+    (10, Refusal::StoredShape),
+    (11, Refusal::StoredContent),
+    (12, Refusal::BlankDate),
+    (13, Refusal::NotWhole),
+    (14, Refusal::TooFewSteps),
+    (15, Refusal::TooLow),
+    (19, Refusal::InputLine),
 ];
 
 impl Refusal {
     pub(crate) fn of(number: u16) -> Refusal {
-        let place = usize::from(number).wrapping_sub(1);
-        NAMED.get(place).copied().unwrap_or(Refusal::Other(number))
+        let found = NAMED.iter().find(|(its, _)| *its == number);
+        found.map_or(Refusal::Other(number), |(_, refusal)| *refusal)
     }
 
     /// What a call tells that writes or refuses: 0, or a refusal's number.
@@ -84,7 +91,7 @@ impl Refusal {
     pub fn number(self) -> u16 {
         match self {
             Refusal::Other(number) => number,
-            named => 1 + NAMED.iter().position(|n| *n == named).unwrap_or(0) as u16,
+            named => NAMED.iter().find(|(_, refusal)| *refusal == named).map_or(0, |(number, _)| *number),
         }
     }
 
@@ -95,7 +102,7 @@ impl Refusal {
             Refusal::NoDenseOutput => "fewer than two samples, so there is nothing to interpolate between",
             Refusal::InterpOutOfBounds => "a time lies outside the samples; nothing was written",
             Refusal::Setting => "a setting is over its limit: passes go up to 100, max_steps to 1,000,000",
-            Refusal::SampleRoom => "the samples due now do not all fit in the buffer; the run has ended, this call wrote none",
+            Refusal::SampleRoom => "the samples due now do not all fit in the buffer, or it begins at a later one; the run has ended, this call wrote none",
             Refusal::NoQuestion => "no question is open: the run has ended, or its memory is not that of a run",
             Refusal::NotThatQuestion => "the answer's number is not that of the open question; the run waits as before",
             Refusal::Shape => "the samples are not in tens, or the output has too few numbers for its times",
@@ -104,6 +111,8 @@ impl Refusal {
             Refusal::BlankDate => "the start, the end or the step is not a finite number; look at the dates that went in",
             Refusal::NotWhole => "the start, the end or the step is no whole number, or beyond the bounds of a whole-second start",
             Refusal::TooFewSteps => "max_steps is below the steps that the run takes; a larger max_steps or a longer step would do",
+            Refusal::TooLow => "a question's distance from the centre is below 1 km, or NaN; the run has ended",
+            Refusal::InputLine => "a line of the input is missing, one too many, or misshapen",
             Refusal::Other(_) => "a refusal that this crate has no name for",
         }
     }
@@ -124,7 +133,7 @@ mod tests {
 
     #[test]
     fn numbers_go_both_ways() {
-        for number in 0..=20 {
+        for number in (0..=24).chain([u16::MAX]) {
             assert_eq!(Refusal::of(number).number(), number);
         }
         assert_eq!(Refusal::of(1), Refusal::StepNotFinite);
@@ -133,14 +142,18 @@ mod tests {
         assert_eq!(Refusal::of(12), Refusal::BlankDate);
         assert_eq!(Refusal::of(13), Refusal::NotWhole);
         assert_eq!(Refusal::of(14), Refusal::TooFewSteps);
-        assert_eq!(Refusal::of(0), Refusal::Other(0));
-        assert_eq!(Refusal::of(15), Refusal::Other(15));
+        assert_eq!(Refusal::of(15), Refusal::TooLow);
+        assert_eq!(Refusal::of(19), Refusal::InputLine);
+        for nobodys in [0, 16, 17, 18, 20] {
+            assert_eq!(Refusal::of(nobodys), Refusal::Other(nobodys));
+        }
     }
 
     #[test]
     fn each_has_a_text_of_its_own() {
-        let texts: HashSet<_> = (1..=15).map(|n| Refusal::of(n).text()).collect();
-        assert_eq!(texts.len(), 15);
+        // Those with a name, and one for all others.
+        let texts: HashSet<_> = (0..=20).map(|n| Refusal::of(n).text()).collect();
+        assert_eq!(texts.len(), NAMED.len() + 1);
         let error: &dyn std::error::Error = &Refusal::NotThatQuestion;
         let said = "the answer's number is not that of the open question; the run waits as before (refusal 8)";
         assert_eq!(error.to_string(), said);

@@ -12,8 +12,18 @@ pub enum Reply {
     Done { t: f64, r: Triple, v: Triple, evals: u64, steps: u64, startup_iters: u64 },
 }
 
+/// What an answer tells, refused or not.
+#[must_use = "its outcome may be a refusal, or the finished state"]
+#[derive(Debug, Clone, Copy, PartialEq)]
+pub struct Answered {
+    /// The next question or the finished state, or why the call was refused.
+    pub outcome: Result<Reply, Refusal>,
+    /// How many samples this call stored: 0, 1 or 5. All of a run's together are the number of its next sample.
+    pub stored: u64,
+}
+
 pub(crate) fn read(reply: raw::Reply) -> Result<Reply, Refusal> {
-    let raw::Reply { t, r, v, evals, steps, startup_iters, kind, refusal, number } = reply;
+    let raw::Reply { t, r, v, evals, steps, startup_iters, kind, refusal, number, .. } = reply;
     match kind {
         0 => Ok(Reply::Ask { number, t, r, v }),
         1 => Ok(Reply::Done { t, r, v, evals, steps, startup_iters }),
@@ -57,7 +67,8 @@ impl Run {
     ///
     /// With samples, sample n goes to numbers 10n to 10n+9 of `samples`, the same slice at every call, and nothing else of it is written.
     /// Samples 0 to 4 come with the startup's last answer, then one a step, so [`numbers_for`](crate::numbers_for) the steps is room
-    /// enough. Without samples the slice may be empty. [`Run::drive`] makes this loop for you:
+    /// enough. Without samples the slice may be empty. [`Run::answer_from`] takes a small slice too, and tells how many samples were stored.
+    /// [`Run::drive`] makes this loop for you:
     ///
     /// ```
     /// use gauss_jackson::{numbers_for, Reply, Run, Settings, Triple};
@@ -85,8 +96,43 @@ impl Run {
     ///
     /// A number is used again after 65,536 questions: an answer exactly so many questions late is not noticed.
     pub fn answer(&mut self, number: u16, a: Triple, samples: &mut [f64]) -> Result<Reply, Refusal> {
+        self.answer_from(number, a, 0, samples).outcome
+    }
+
+    /// The same, with a slice that begins at sample `from`, and with the number of samples that the call stored.
+    ///
+    /// With samples, sample n goes to the ten numbers of `samples` from 10(n - `from`) on, and nothing else of it is written. The run keeps
+    /// nothing of the slice: each call may lend another, and begin it elsewhere. Fifty numbers that begin at the number of samples stored so
+    /// far are room enough for whatever is due, at every call; what was stored stands at their beginning. Take it before you look at the
+    /// outcome: the last samples come with the finished state, or with [`Refusal::MaxStepsExceeded`].
+    ///
+    /// ```
+    /// use gauss_jackson::{Reply, Run, Sample, Settings, Triple, SAMPLE_NUMBERS};
+    /// # fn force(_: f64, r: Triple, _: Triple) -> Triple { Triple { x: -r.x, y: -r.y, z: -r.z } }
+    /// # let (r0, v0) = (Triple::from([1.0, 0.0, 0.0]), Triple::from([0.0, 1.0, 0.0]));
+    /// let settings = Settings { h: 0.25, samples: true, ..Settings::default() };
+    /// let mut room = [0.0; 5 * SAMPLE_NUMBERS];
+    /// let mut so_far = 0;
+    /// let (mut run, mut reply) = Run::start(settings, 0.0, 10.0, r0, v0)?;
+    /// while let Reply::Ask { number, t, r, v } = reply {
+    ///     let told = run.answer_from(number, force(t, r, v), so_far, &mut room);
+    ///     for (n, sample) in (so_far..so_far + told.stored).zip(Sample::view(&room)) {
+    ///         println!("sample {n} at {}: {:?}", sample.t, sample.r);
+    /// #       assert_eq!(sample.t, 0.25 * n as f64);
+    ///     }
+    ///     so_far += told.stored;
+    ///     reply = told.outcome?;
+    /// }
+    /// assert_eq!(so_far, 41);
+    /// # Ok::<(), gauss_jackson::Refusal>(())
+    /// ```
+    ///
+    /// The outcome is that of [`Run::answer`], with the same refusals in the same order; [`Refusal::SampleRoom`] also where a sample that is
+    /// due stands before `from`.
+    pub fn answer_from(&mut self, number: u16, a: Triple, from: u64, samples: &mut [f64]) -> Answered {
         // The slice gives pointer and true count; run and slice cannot overlap.
-        read(unsafe { raw::gj_answer(&mut self.0, number, a, samples.as_mut_ptr(), samples.len()) })
+        let told = unsafe { raw::gj_answer(&mut self.0, number, a, from, samples.as_mut_ptr(), samples.len()) };
+        Answered { outcome: read(told), stored: told.stored }
     }
 
     /// The open question, once more.
@@ -120,7 +166,7 @@ mod tests {
 
     fn told(kind: u32) -> raw::Reply {
         let (r, v) = (Triple::from([1.0, 2.0, 3.0]), Triple::from([4.0, 5.0, 6.0]));
-        raw::Reply { t: 7.0, r, v, evals: 8, steps: 9, startup_iters: 10, kind, refusal: 6, number: 11 }
+        raw::Reply { t: 7.0, r, v, evals: 8, steps: 9, startup_iters: 10, stored: 5, kind, refusal: 6, number: 11 }
     }
 
     #[test]

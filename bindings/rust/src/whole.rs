@@ -7,7 +7,7 @@ use crate::{abi, raw, run, Refusal, Reply, Run, Settings, Triple};
 pub struct Cost {
     /// The steps that it makes.
     pub steps: u64,
-    /// The room that every answer must bring, in samples: one more than steps; 0 where no samples are wanted.
+    /// The samples in all, one more than steps, which a slice from sample 0 on must hold; 0 where none are wanted.
     pub samples: usize,
     /// The same room in numbers, ten a sample: what the slice lent to [`Run::answer`] must have.
     pub numbers: usize,
@@ -57,7 +57,8 @@ impl Run {
     /// run that [`Run::start`] gives for the same values, with the same questions.
     ///
     /// **A run that is accepted here always finishes,** at `tf` exactly, in [`Cost::steps`] steps, after [`Cost::least`] to [`Cost::most`]
-    /// answers, whatever the force says: if each answer comes under its question's number, with room for [`Cost::numbers`] numbers.
+    /// answers, whatever the force says: if each answer comes under its question's number, with room for [`Cost::numbers`] numbers, or with
+    /// a small slice that begins at the next sample ([`Run::answer_from`]).
     /// [`Run::drive`] answers so, given that room.
     ///
     /// ```
