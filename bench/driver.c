@@ -144,7 +144,7 @@ static gj_run run_at(const struct point *p) {
     gj_reply reply = gj_start(&run, k.settings, k.t0, k.tf, k.r0, k.v0);
     while (run.mark.at != p->at || run.mark.index != p->index || run.mark.stage != p->stage) {
         if (reply.kind != GJ_ASK) exit(3);
-        reply = gj_answer(&run, reply.number, (gj_triple){-reply.r.x, -reply.r.y, -reply.r.z}, k.out, k.count);
+        reply = gj_answer(&run, reply.number, (gj_triple){-reply.r.x, -reply.r.y, -reply.r.z}, 0, k.out, k.count);
     }
     return run;
 }

@@ -7,8 +7,10 @@ void library_run(const task *task, gj_reply *end) {
     gj_reply reply = gj_start(&run, task->settings, task->t0, task->tf, task->r0, task->v0);
     while (reply.kind == GJ_ASK) {
         gj_triple a = {-reply.r.x, -reply.r.y, -reply.r.z};
-        reply = gj_answer(&run, reply.number, a, task->out, task->count);
+        reply = gj_answer(&run, reply.number, a, 0, task->out, task->count);
     }
+    /* The other columns make one call of the whole run: what the last one stored is no result to compare. */
+    reply.stored = 0;
     *end = reply;
 }
 

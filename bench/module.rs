@@ -37,6 +37,7 @@ pub struct Reply {
     evals: u64,
     steps: u64,
     startup_iters: u64,
+    stored: u64,
     kind: u32,
     refusal: u16,
     number: u16,
@@ -77,7 +78,7 @@ pub unsafe extern "C" fn module_run(task: &Task, end: &mut Reply) {
         copy(dense, std::slice::from_raw_parts_mut(task.out, task.count));
     }
     let (evals, steps, startup_iters) = (s.evals as u64, s.steps as u64, s.startup_iters as u64);
-    *end = Reply { t: s.t, r: three(&s.r), v: three(&s.v), evals, steps, startup_iters, kind: 1, refusal: 0, number: 0 };
+    *end = Reply { t: s.t, r: three(&s.r), v: three(&s.v), evals, steps, startup_iters, stored: 0, kind: 1, refusal: 0, number: 0 };
 }
 
 /// The samples as the module keeps them.

@@ -35,7 +35,7 @@ static size_t read_form(const char *path, uint8_t *bytes, size_t room) {
     return count;
 }
 
-static gj_reply answer(gj_run *run, gj_reply question) { return gj_answer(run, question.number, force(question.r), NULL, 0); }
+static gj_reply answer(gj_run *run, gj_reply question) { return gj_answer(run, question.number, force(question.r), 0, NULL, 0); }
 
 static int put_away(long answers, const char *path) {
     gj_run run;

@@ -23,7 +23,7 @@ enum { ROWS = 24 };
 static gj_reply carry_forward(gj_run *run, gj_whole_reply begun, double *samples) {
     gj_reply reply = begun.reply;
     while (reply.kind == GJ_ASK)
-        reply = gj_answer(run, reply.number, force(reply.r), samples, begun.cost.numbers);
+        reply = gj_answer(run, reply.number, force(reply.r), 0, samples, begun.cost.numbers);
     return reply;
 }
 

@@ -73,7 +73,7 @@ static gj_reply carry_forward(gj_run *run, gj_whole_reply begun, double *samples
             show_progress(begun.cost, (uint64_t)reply.t / STEP, answers);
             next += (double)STEPS_A_DAY * STEP;
         }
-        reply = gj_answer(run, reply.number, force(reply.r), samples, NUMBERS);
+        reply = gj_answer(run, reply.number, force(reply.r), 0, samples, NUMBERS);
     }
     end_progress();
     return reply;

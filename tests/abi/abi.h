@@ -27,9 +27,19 @@ static inline gj_settings plain(void) {
 static inline gj_reply play(gj_run *run, gj_reply reply, double *out, size_t count, int most) {
     for (; most > 0 && reply.kind == GJ_ASK; most--) {
         gj_triple a = {-reply.r.x, -reply.r.y, -reply.r.z};
-        reply = gj_answer(run, reply.number, a, out, count);
+        reply = gj_answer(run, reply.number, a, 0, out, count);
     }
     return reply;
+}
+
+/* Field by field, by their bits: padding is nobody's. There is none after that of the settings. */
+static inline int same_run(const gj_run *one, const gj_run *other) {
+    const gj_mark *m = &one->mark, *n = &other->mark;
+    const char *body = (const char *)&one->body, *other_body = (const char *)&other->body;
+    size_t fields = offsetof(gj_settings, samples) + 1, rest = offsetof(gj_plan, t0);
+    return m->at == n->at && m->index == n->index && m->stage == n->stage && m->count.number == n->count.number &&
+           m->count.evals == n->count.evals && memcmp(body, other_body, fields) == 0 &&
+           memcmp(body + rest, other_body + rest, sizeof(gj_body) - rest) == 0;
 }
 
 /* Runs of two starts are written over memory filled with these; where a byte of either has changed, a start has written. */
@@ -41,6 +51,9 @@ static inline size_t extent_of(const unsigned char *low, const unsigned char *hi
         if (low[i] != LOW_FILL || high[i] != HIGH_FILL) last = i + 1;
     return last;
 }
+
+/* Whether a refusal has this number; 16 to 18 are nobody's yet. */
+static inline int is_named(unsigned number) { return (1 <= number && number <= GJ_TOO_LOW) || number == GJ_INPUT_LINE; }
 
 static inline int refused(gj_reply reply, int refusal) { return reply.kind == GJ_REFUSED && reply.refusal == refusal; }
 
@@ -57,6 +70,7 @@ void layout_of_replies(void);
 void layout_of_costs(void);
 void layout_of_runs(void);
 void results(void);
+void rooms(void);
 void promises(void);
 void between(void);
 void stored_refusals(void);

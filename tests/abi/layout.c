@@ -31,7 +31,7 @@ static size_t extent(const unsigned char *memory, size_t size) {
  * so that the hidden argument can be seen. */
 void *seen_default_settings(void *) __asm__("gj_default_settings");
 void *seen_start(void *, gj_run *, gj_settings, double, double, gj_triple, gj_triple) __asm__("gj_start");
-void *seen_answer(void *, gj_run *, uint16_t, gj_triple, double *, size_t) __asm__("gj_answer");
+void *seen_answer(void *, gj_run *, uint16_t, gj_triple, uint64_t, double *, size_t) __asm__("gj_answer");
 void *seen_load(void *, gj_run *, const uint8_t *, size_t) __asm__("gj_load");
 void *seen_forecast(void *, gj_settings, double, double) __asm__("gj_forecast");
 void *seen_start_whole(void *, gj_run *, gj_settings, double, double, gj_triple, gj_triple) __asm__("gj_start_whole");
@@ -70,11 +70,11 @@ static void question_layout(gj_run *run) {
     memset(told, PATTERN, sizeof told);
     check(seen_start(told, run, plain(), 7.5, 16.5, r0, v0) == (void *)told, "a start's hidden pointer comes back");
     check(extent(told, WIDE) == sizeof(gj_reply), "a reply fills gj_reply and no more");
-    check(place_of_float(told, 88, 7.5) == offsetof(gj_reply, t), "a question's t");
+    check(place_of_float(told, 96, 7.5) == offsetof(gj_reply, t), "a question's t");
     double six[] = {1.5, 2.5, 3.5, 4.5, 5.5, 6.5};
     for (int i = 0; i < 3; i++) {
-        check(place_of_float(told, 88, six[i]) == (long)offsetof(gj_reply, r) + 8 * i, "a question's position");
-        check(place_of_float(told, 88, six[3 + i]) == (long)offsetof(gj_reply, v) + 8 * i, "a question's velocity");
+        check(place_of_float(told, 96, six[i]) == (long)offsetof(gj_reply, r) + 8 * i, "a question's position");
+        check(place_of_float(told, 96, six[3 + i]) == (long)offsetof(gj_reply, v) + 8 * i, "a question's velocity");
     }
 }
 
@@ -87,13 +87,27 @@ static void number_layout(gj_run *run) {
     s.max_startup_iters = 40;
     gj_reply reply = play(run, gj_start(run, s, 0.0, 8.0, zero, zero), out, 0, 257);
     memset(told, PATTERN, sizeof told);
-    check(seen_answer(told, run, reply.number, zero, out, 0) == (void *)told, "an answer's hidden pointer comes back");
+    check(seen_answer(told, run, reply.number, zero, 0, out, 0) == (void *)told, "an answer's hidden pointer comes back");
     uint16_t number = 258, refusal = 8;
-    check(place_of(told, 88, &number, 2) == offsetof(gj_reply, number), "a question's number");
-    seen_answer(told, run, 5, zero, out, 0);
-    check(place_of(told, 88, &refusal, 2) == offsetof(gj_reply, refusal), "a refusal's number");
+    check(place_of(told, 96, &number, 2) == offsetof(gj_reply, number), "a question's number");
+    seen_answer(told, run, 5, zero, 0, out, 0);
+    check(place_of(told, 96, &refusal, 2) == offsetof(gj_reply, refusal), "a refusal's number");
     uint32_t kind = GJ_REFUSED;
-    check(place_of(told, 88, &kind, 4) == offsetof(gj_reply, kind), "a refusal's kind");
+    check(place_of(told, 96, &kind, 4) == offsetof(gj_reply, kind), "a refusal's kind");
+}
+
+/* The startup's last answer, the 49th, stores five samples, which a lone 5 tells. */
+static void stored_layout(gj_run *run) {
+    unsigned char told[WIDE];
+    double out[50];
+    gj_triple r0 = {1.5, 2.5, 3.5};
+    gj_settings s = plain();
+    s.samples = 1;
+    gj_reply reply = play(run, gj_start(run, s, 0.0, 8.0, r0, r0), out, 50, 48);
+    memset(told, PATTERN, sizeof told);
+    seen_answer(told, run, reply.number, r0, 0, out, 50);
+    check(extent(told, WIDE) == sizeof(gj_reply), "an answer's reply fills gj_reply and no more");
+    check(place_of_word(told, 96, 5) == offsetof(gj_reply, stored), "how many samples were stored");
 }
 
 /* 0 to 17 in steps of 2, with 3 startup passes: 9 steps, 77 answers. */
@@ -103,11 +117,11 @@ static void state_layout(gj_run *run) {
     gj_settings s = plain();
     s.h = 2.0, s.max_startup_iters = 3;
     gj_reply end = play(run, gj_start(run, s, 0.0, 17.0, r0, r0), out, 0, 1000);
-    check(place_of_word(&end, 88, 41 + 8 * 3 + 4 * 2 + 4) == offsetof(gj_reply, evals), "the finished state's evals");
-    check(place_of_word(&end, 88, 9) == offsetof(gj_reply, steps), "the finished state's steps");
-    check(place_of_word(&end, 88, 3) == offsetof(gj_reply, startup_iters), "the finished state's startup_iters");
+    check(place_of_word(&end, 96, 41 + 8 * 3 + 4 * 2 + 4) == offsetof(gj_reply, evals), "the finished state's evals");
+    check(place_of_word(&end, 96, 9) == offsetof(gj_reply, steps), "the finished state's steps");
+    check(place_of_word(&end, 96, 3) == offsetof(gj_reply, startup_iters), "the finished state's startup_iters");
     uint32_t kind = GJ_DONE;
-    check(place_of(&end, 88, &kind, 4) == offsetof(gj_reply, kind), "the finished state's kind");
+    check(place_of(&end, 96, &kind, 4) == offsetof(gj_reply, kind), "the finished state's kind");
 }
 
 /* A loading tells its question as a start does, in the same place. */
@@ -127,6 +141,7 @@ void layout_of_replies(void) {
     question_layout(&run);
     loaded_layout(&run);
     number_layout(&run);
+    stored_layout(&run);
     state_layout(&run);
 }
 
@@ -165,7 +180,7 @@ static void whole_layout(void) {
     check(seen_start_whole(told, &run, COSTED, 0.0, 17.0, r0, v0) == (void *)told, "a whole-second start's hidden pointer comes back");
     check(extent(told, WIDE) == sizeof(gj_whole_reply), "a whole-second start fills gj_whole_reply and no more");
     check(memcmp(told + offsetof(gj_whole_reply, reply), &asked, sizeof asked) == 0, "a whole-second start's reply is the plain start's");
-    check_cost(told, 128, offsetof(gj_whole_reply, cost));
+    check_cost(told, 136, offsetof(gj_whole_reply, cost));
 }
 
 void layout_of_costs(void) {

@@ -58,15 +58,15 @@ static void refusals_of_an_answer(void) {
     gj_settings s = plain();
     from_to(&run, s, 0.0, 8.0);
     before = run;
-    check(refused(gj_answer(&run, 1, a, 0, 0), GJ_NOT_THAT_QUESTION), "another number: refusal 8");
+    check(refused(gj_answer(&run, 1, a, 0, 0, 0), GJ_NOT_THAT_QUESTION), "another number: refusal 8");
     check(memcmp(&run, &before, sizeof run) == 0, "refusal 8 leaves the run");
     run.body.startup_iters = 1;
     before = run;
-    check(refused(gj_answer(&run, 0, a, 0, 0), GJ_NO_QUESTION), "a made-up run: refusal 7");
+    check(refused(gj_answer(&run, 0, a, 0, 0, 0), GJ_NO_QUESTION), "a made-up run: refusal 7");
     check(memcmp(&run, &before, sizeof run) == 0, "refusal 7 leaves the run");
     s.max_steps = 7;
     check(refused(play(&run, from_to(&run, s, 0.0, 8.0), 0, 0, 1000), GJ_MAX_STEPS_EXCEEDED), "max_steps 7: refusal 2");
-    check(refused(gj_answer(&run, 0, a, 0, 0), GJ_NO_QUESTION), "an ended run: refusal 7");
+    check(refused(gj_answer(&run, 0, a, 0, 0, 0), GJ_NO_QUESTION), "an ended run: refusal 7");
 }
 
 /* Nine samples fill ninety numbers; with one number less the last one is refused, with none the first five. */

@@ -34,25 +34,25 @@ static void along_the_startup(gj_run *run) {
     check(run->body.plan.t0 == 10.0 && run->body.plan.tf == 29.0 && run->body.plan.h == 2.0, "t0, tf, h");
     check(run->body.plan.settings.h == -2.0, "the setting's own h");
     check(same(run->body.places.r[4], 16, 32, 64) && same(run->body.places.v[4], 0.5, 0.25, 0.125), "the epoch's place");
-    reply = gj_answer(run, reply.number, odd, 0, 0);
+    reply = gj_answer(run, reply.number, odd, 0, 0, 0);
     check_mark(run, 2, 4, 0, 1, "RK4 on, first question");
     check(same(run->body.a[4], 1, 5, 7), "the epoch's acceleration");
     for (int i = 0; i < 3; i++) {
         odd.x += 10;
-        reply = gj_answer(run, reply.number, odd, 0, 0);
+        reply = gj_answer(run, reply.number, odd, 0, 0, 0);
         check_mark(run, 2, 4, i + 1, 2 + i, "RK4 on, further questions");
         check(same(run->body.slopes[i], odd.x, 5, 7), "RK4's accelerations");
     }
-    for (int i = 4; i < 17; i++) reply = gj_answer(run, reply.number, zero, 0, 0);
+    for (int i = 4; i < 17; i++) reply = gj_answer(run, reply.number, zero, 0, 0, 0);
     check_mark(run, 3, 4, 0, 17, "RK4 back");
-    for (int i = 17; i < 33; i++) reply = gj_answer(run, reply.number, zero, 0, 0);
+    for (int i = 17; i < 33; i++) reply = gj_answer(run, reply.number, zero, 0, 0, 0);
     check_mark(run, 4, 0, 0, 33, "first accelerations");
     odd = (gj_triple){-1, 3, 9};
-    for (int i = 33; i < 41; i++) reply = gj_answer(run, reply.number, odd, 0, 0);
+    for (int i = 33; i < 41; i++) reply = gj_answer(run, reply.number, odd, 0, 0, 0);
     check_mark(run, 5, 0, 0, 41, "a startup pass");
     check(same(run->body.a[0], -1, 3, 9) && same(run->body.a[8], -1, 3, 9), "the accelerations of points 0 and 8");
     check(run->body.delta == 0.0 && run->body.mag == 5.0, "a pass begins with the epoch's own size");
-    gj_answer(run, reply.number, (gj_triple){1, 5, 11}, 0, 0);
+    gj_answer(run, reply.number, (gj_triple){1, 5, 11}, 0, 0, 0);
     check(run->body.delta == 2.0 && run->body.mag == 7.0, "the largest change and size so far");
 }
 
@@ -62,7 +62,7 @@ static gj_reply to_the_first_step(gj_run *run) {
     gj_triple r0 = {16, 32, 64}, v0 = {0.5, 0.25, 0.125}, zero = {0, 0, 0};
     s.h = 2.0;
     gj_reply reply = gj_start(run, s, 10.0, 29.0, r0, v0);
-    for (int i = 0; i < 49; i++) reply = gj_answer(run, reply.number, zero, 0, 0);
+    for (int i = 0; i < 49; i++) reply = gj_answer(run, reply.number, zero, 0, 0, 0);
     return reply;
 }
 
@@ -84,8 +84,8 @@ static void sums_of_a_step(void) {
     changed = run;
     changed.body.trial.fa.y += 1.0;
     changed.body.trial.fb.z += 1.0;
-    gj_reply before = gj_answer(&run, open.number, zero, 0, 0);
-    gj_reply after = gj_answer(&changed, open.number, zero, 0, 0);
+    gj_reply before = gj_answer(&run, open.number, zero, 0, 0, 0);
+    gj_reply after = gj_answer(&changed, open.number, zero, 0, 0, 0);
     check(same(after.r, before.r.x, before.r.y + 4.0, before.r.z), "FA reaches the position");
     check(same(after.v, before.v.x, before.v.y, before.v.z + 2.0), "FB reaches the velocity");
     check(run.mark.at == 6 && run.mark.index == 1, "a step after one correction");

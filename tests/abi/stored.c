@@ -89,7 +89,7 @@ static void blank_dates(const uint8_t *form) {
         check(gj_store(&run, bytes, sizeof bytes) == GJ_NO_QUESTION, "a run with a blank date is made up: refusal 7 to a storing");
         check(is_all(bytes, sizeof bytes, PATTERN), "a refused storing leaves the buffer as it was");
         check(refused_alone(gj_open_question(&run), GJ_NO_QUESTION), "such a run has no open question");
-        check(refused_alone(gj_answer(&run, open.number, open.r, 0, 0), GJ_NO_QUESTION), "such a run takes no answer");
+        check(refused_alone(gj_answer(&run, open.number, open.r, 0, 0, 0), GJ_NO_QUESTION), "such a run takes no answer");
         check(memcmp(&run, &before, sizeof run) == 0, "such a run is left as it was");
         memcpy(bytes, form, sizeof bytes);
         replace(bytes, 6 + 2 * floats[i % 4], (uint32_t)blanks[i / 4]);

@@ -68,6 +68,8 @@ static void asks_on(gj_settings s, double t0, double tf) {
         check(gj_store(&away, form, sizeof form) == 0, "a storing at a question");
         memset(&away, PATTERN, sizeof away);
         loaded = gj_load(&away, form, sizeof form);
+        /* What the answer before it stored is told once. */
+        reply.stored = 0;
         check(memcmp(&loaded, &reply, sizeof reply) == 0, "a loading gives the open question");
         loaded = gj_open_question(&away);
         check(memcmp(&loaded, &reply, sizeof reply) == 0, "the loaded run has that question open");

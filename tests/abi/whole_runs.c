@@ -10,16 +10,6 @@ enum { MOST_NUMBERS = 1000 };
 static const gj_triple R0 = {1, 2, 3}, V0 = {0, 1, 0};
 static const double UNTOUCHED = 12345.5;
 
-/* Field by field, by their bits: padding is nobody's. There is none after that of the settings. */
-static int same_run(const gj_run *one, const gj_run *other) {
-    const gj_mark *m = &one->mark, *n = &other->mark;
-    const char *body = (const char *)&one->body, *other_body = (const char *)&other->body;
-    size_t fields = offsetof(gj_settings, samples) + 1, rest = offsetof(gj_plan, t0);
-    return m->at == n->at && m->index == n->index && m->stage == n->stage && m->count.number == n->count.number &&
-           m->count.evals == n->count.evals && memcmp(body, other_body, fields) == 0 &&
-           memcmp(body + rest, other_body + rest, sizeof(gj_body) - rest) == 0;
-}
-
 /* Every byte of a run is written, but for padding, and none past it. */
 static void extent_of_a_start(void) {
     unsigned char low[2000], high[2000];
@@ -85,7 +75,7 @@ static gj_reply check_end(gj_settings s, double t0, double tf, int which) {
     gj_reply reply = begun.reply;
     check(cost.numbers == GJ_SAMPLE_NUMBERS * cost.samples && cost.numbers + GJ_SAMPLE_NUMBERS <= MOST_NUMBERS, "room, counted twice");
     for (uint64_t n = 0; reply.kind == GJ_ASK; n++)
-        reply = gj_answer(&run, reply.number, force(which, reply), out, n % 2 ? MOST_NUMBERS : cost.numbers);
+        reply = gj_answer(&run, reply.number, force(which, reply), 0, out, n % 2 ? MOST_NUMBERS : cost.numbers);
     check(reply.kind == GJ_DONE && reply.t == tf && reply.steps == cost.steps, "finished at tf, in the steps that were told");
     check(cost.least <= reply.evals && reply.evals <= cost.most, "finished within the answers that were told");
     uint64_t filled = 0;

@@ -21,7 +21,7 @@ fn play(settings: Settings, samples: &mut [f64]) -> Result<(u64, u64), Refusal> 
                 let a = Triple { x: -r.x, y: -r.y, z: -r.z };
                 let mut copy = run.clone();
                 reply = run.answer(number, a, samples)?;
-                assert_eq!(copy.answer(number, a, samples), Ok(reply));
+                assert_eq!(copy.answer_from(number, a, 0, samples).outcome, Ok(reply));
             }
             Reply::Done { steps, evals, .. } => {
                 assert_eq!(run.answer(0, Triple::default(), samples), Err(Refusal::NoQuestion));
@@ -49,6 +49,22 @@ fn refusals() {
     let (mut run, reply) = start(PLAIN).unwrap();
     assert_eq!(run.answer(1, Triple::default(), &mut []), Err(Refusal::NotThatQuestion));
     assert_eq!(run.open_question(), Ok(reply));
+}
+
+/// Room for five samples, used again, holds what one for all of them holds; how many were stored is told.
+fn rooms() {
+    let sampled = Settings { samples: true, ..PLAIN };
+    let mut large = vec![0.0; numbers_for(8)];
+    play(sampled, &mut large).unwrap();
+    let (mut run, mut reply) = start(sampled).unwrap();
+    let mut small = Vec::new();
+    while let Reply::Ask { number, r, .. } = reply {
+        let (mut room, so_far) = ([0.0; 5 * SAMPLE_NUMBERS], (small.len() / SAMPLE_NUMBERS) as u64);
+        let told = run.answer_from(number, Triple { x: -r.x, y: -r.y, z: -r.z }, so_far, &mut room);
+        small.extend_from_slice(&room[..SAMPLE_NUMBERS * told.stored as usize]);
+        reply = told.outcome.unwrap();
+    }
+    assert_eq!(small, large);
 }
 
 fn stored() {
@@ -105,22 +121,24 @@ fn between() {
 #[cfg(not(feature = "dense"))]
 fn between() {}
 
-/// By their numbers, from 1 on.
-const NAMED: [Refusal; 14] = [
-    Refusal::StepNotFinite,
-    Refusal::MaxStepsExceeded,
-    Refusal::NoDenseOutput,
-    Refusal::InterpOutOfBounds,
-    Refusal::Setting,
-    Refusal::SampleRoom,
-    Refusal::NoQuestion,
-    Refusal::NotThatQuestion,
-    Refusal::Shape,
-    Refusal::StoredShape,
-    Refusal::StoredContent,
-    Refusal::BlankDate,
-    Refusal::NotWhole,
-    Refusal::TooFewSteps,
+/// The header's numbers, and the crate's names.
+const NAMED: [(u16, Refusal); 16] = [
+    (1, Refusal::StepNotFinite),
+    (2, Refusal::MaxStepsExceeded),
+    (3, Refusal::NoDenseOutput),
+    (4, Refusal::InterpOutOfBounds),
+    (5, Refusal::Setting),
+    (6, Refusal::SampleRoom),
+    (7, Refusal::NoQuestion),
+    (8, Refusal::NotThatQuestion),
+    (9, Refusal::Shape),
+    (10, Refusal::StoredShape),
+    (11, Refusal::StoredContent),
+    (12, Refusal::BlankDate),
+    (13, Refusal::NotWhole),
+    (14, Refusal::TooFewSteps),
+    (15, Refusal::TooLow),
+    (19, Refusal::InputLine),
 ];
 
 /// Whether the crate has a refusal of that number, with the header's text; of 5 its beginning, since a flag has no limit here that it could name.
@@ -137,7 +155,7 @@ pub unsafe extern "C" fn wrapper_says(number: u16, text: *const c_char) -> i32 {
         let same = |own: &str| if *refusal == Refusal::Setting { text.starts_with(own) && own.len() > 40 } else { text == own };
         refusal.number() == number && own.map_or(false, same)
     };
-    NAMED.get(usize::from(number) - 1).map_or(false, said).into()
+    NAMED.iter().any(|(its, refusal)| *its == number && said(refusal)).into()
 }
 
 /// The crate's own sizes, for the header's.
@@ -159,6 +177,6 @@ pub extern "C" fn wrapper_stored_size() -> usize {
 /// How many of the parts failed; each says on standard error what it found.
 #[no_mangle]
 pub extern "C" fn wrapper_failures() -> i32 {
-    let parts: [fn(); 5] = [runs, refusals, stored, whole, between];
+    let parts: [fn(); 6] = [runs, refusals, rooms, stored, whole, between];
     parts.iter().filter(|part| std::panic::catch_unwind(**part).is_err()).count() as i32
 }

@@ -32,7 +32,7 @@ gj_reply fly(place from, double until, double h, double *samples, size_t room) {
     settings.h = h;
     settings.samples = samples != 0;
     gj_reply reply = gj_start(&run, settings, from.t, until, from.r, from.v);
-    while (reply.kind == GJ_ASK) reply = gj_answer(&run, reply.number, force(reply.r), samples, room);
+    while (reply.kind == GJ_ASK) reply = gj_answer(&run, reply.number, force(reply.r), 0, samples, room);
     return reply;
 }
 

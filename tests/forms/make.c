@@ -85,7 +85,7 @@ static int print_form(const struct kept_run *kept, int other_nan) {
     uint8_t form[GJ_STORED_SIZE];
     gj_run run;
     gj_reply q = gj_start(&run, kept->settings, kept->t0, kept->tf, kept->r, kept->v);
-    for (unsigned long n = 0; n < kept->answers && q.kind == GJ_ASK; n++) q = gj_answer(&run, q.number, force(kept, &q), room, 400);
+    for (unsigned long n = 0; n < kept->answers && q.kind == GJ_ASK; n++) q = gj_answer(&run, q.number, force(kept, &q), 0, room, 400);
     if (gj_store(&run, form, sizeof form) != 0 || gj_load(&run, form, sizeof form).kind != GJ_ASK) return 0;
     if (other_nan && other_nans(form) == 0) return 0;
     printf("form %s%s\n# %s%s.\n", kept->name, other_nan ? "-other" : "", kept->what, other_nan ? "; its NaN have other signs and payloads" : "");

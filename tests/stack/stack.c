@@ -33,7 +33,7 @@ static void call_start_whole(void) {
 
 static void call_answer(void) {
     gj_triple a = {-reply.r.x, -reply.r.y, -reply.r.z};
-    reply = gj_answer(&run, reply.number, a, samples, 110);
+    reply = gj_answer(&run, reply.number, a, 0, samples, 110);
 }
 
 static void call_open_question(void) { reply = gj_open_question(&run); }
