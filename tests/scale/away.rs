@@ -1,7 +1,7 @@
 // SPDX-License-Identifier: MIT OR Apache-2.0
 //! Runs put away and taken up in the middle of a line, by the library; each form is the second writing's, byte for byte.
 use crate::check::{all_same, holds, Verdict};
-use crate::follow::{answer, is_refused, numbers, open_question, Line};
+use crate::follow::{answer, is_refused, is_refused_after, numbers, open_question, Line};
 use crate::judge::{self, Judge};
 use crate::questions;
 use crate::random::Random;
@@ -84,7 +84,7 @@ fn take_up(line: &mut Line, form: &Form, n: usize, rng: &mut Random) -> Verdict 
     let due = stored::load(form).map_err(|fault| format!("the second writing does not take its own form: {fault:?}"))?;
     holds(stored::are_alike(&run, &due), "the run taken up is not the second writing's")?;
     let (number, question) = questions::open(&due);
-    holds(number == reply.number, "the number asked by the run taken up")?;
+    holds(number == reply.number && reply.stored == 0, "the number asked by the run taken up, and nothing stored")?;
     all_same("the question of the run taken up", &numbers(&reply), &question)?;
     holds(form_of(&run, rng)? == *form, "the run taken up has another form")?;
     line.run = run;
@@ -102,7 +102,7 @@ fn stray(line: &mut Line, rng: &mut Random) -> Verdict {
         let a = Triple { x: rng.unit(), y: f64::from_bits(rng.bits()), z: 0.0 };
         reply = answer(&mut line.run, reply.number, a, &mut room);
     }
-    holds(reply.kind < 2 || is_refused(&reply, 2) || is_refused(&reply, 6), "a stray answer was refused")
+    holds(reply.kind < 2 || is_refused_after(&reply, 2) || is_refused(&reply, 6), "a stray answer was refused")
 }
 
 /// An older form of this line, with an empty room: the question that is open then.
@@ -111,7 +111,7 @@ fn take_up_older(line: &mut Line, rng: &mut Random, tally: &mut Tally) -> Verdic
     let which = rng.below(line.away.kept.len() as u64) as usize;
     let Kept { form, n, written } = line.away.kept.swap_remove(which);
     line.written = written;
-    line.room = Room::new(rng, line.room.count());
+    line.room = Room::new(rng, line.room.count()).begun_at(line.room.from());
     line.away.returns_left -= 1;
     tally.older += 1;
     take_up(line, &form, n, rng)?;

@@ -1,15 +1,17 @@
 // SPDX-License-Identifier: MIT OR Apache-2.0
 //! A case on the library, question by question beside the module's record.
 use crate::away::{self, Away};
-use crate::case::{Case, BLANKS};
+use crate::case::Case;
 use crate::check::{all_same, holds, same, Verdict};
 use crate::counting;
 use crate::judge::Judge;
 use crate::played;
 use crate::random::Random;
-use crate::raw::{self, Reply, Run, Settings, Triple};
+use crate::raw::{self, Reply, Run, Triple};
 use crate::record::{Asked, Record};
+use crate::refused::{blank_dates, over_a_limit, refused_start, start};
 use crate::room::Room;
+use crate::rooms::{anywhere, Rooms};
 use crate::tally::Tally;
 use crate::tamper;
 use numeris::ode::OdeError;
@@ -20,7 +22,9 @@ pub struct Line<'a> {
     pub record: Record,
     pub run: Run,
     pub room: Room,
-    /// Samples that stand in the room.
+    /// Where the rooms begin that are lent.
+    pub rooms: Rooms,
+    /// Samples stored so far.
     pub written: usize,
     pub away: Away,
 }
@@ -34,7 +38,7 @@ pub struct Due {
 
 pub fn answer(run: &mut Run, number: u16, a: Triple, room: &mut Room) -> Reply {
     let (out, count) = (room.lend(), room.count());
-    unsafe { raw::gj_answer(run, number, a, out, count) }
+    unsafe { raw::gj_answer(run, number, a, room.from(), out, count) }
 }
 
 pub fn open_question(run: &Run) -> Reply {
@@ -45,8 +49,13 @@ pub fn numbers(reply: &Reply) -> [f64; 7] {
     [reply.t, reply.r.x, reply.r.y, reply.r.z, reply.v.x, reply.v.y, reply.v.z]
 }
 
-/// The refusal with this number, and nothing else in the reply.
+/// The refusal with this number, and nothing else in the reply, no sample stored either.
 pub fn is_refused(reply: &Reply, refusal: u16) -> bool {
+    reply.stored == 0 && is_refused_after(reply, refusal)
+}
+
+/// The same, whatever the call stored: by 2 a call may be refused after samples.
+pub fn is_refused_after(reply: &Reply, refusal: u16) -> bool {
     let counts = reply.evals | reply.steps | reply.startup_iters;
     let empty = numbers(reply).iter().all(|x| x.to_bits() == 0) && counts == 0 && reply.number == 0;
     empty && reply.kind == 2 && reply.refusal == refusal
@@ -56,17 +65,13 @@ pub fn is_refused(reply: &Reply, refusal: u16) -> bool {
 pub fn check_ended(run: &mut Run, rng: &mut Random, tally: &mut Tally) -> Verdict {
     holds(counting::is_ended(run), "an ended run is not blank")?;
     let before = run.clone();
-    let mut room = Room::new(rng, 7);
+    let mut room = Room::new(rng, 7).begun_at(anywhere(rng));
     let told = answer(run, rng.pick(&[0, 1, 65535, 40]), Triple::default(), &mut room);
     tally.refused[7] += 1;
     let both = is_refused(&told, 7) && is_refused(&open_question(run), 7);
     holds(both && before.0 == run.0, "an ended run does more than refuse by 7")?;
     away::store_any(run, rng, tally)?;
     room.whole_is_as_expected()
-}
-
-fn start(run: &mut Run, case: &Case, settings: Settings) -> Reply {
-    unsafe { raw::gj_start(run, settings, case.t0, case.tf, case.r0, case.v0) }
 }
 
 /// The room for a case: what its samples take, and some more; without samples anything.
@@ -77,7 +82,8 @@ fn room_for(case: &Case, record: &Record, rng: &mut Random) -> Room {
     };
     let needed = if case.wants_samples() { 10 * (steps + 1) } else { 0 };
     let more = rng.below(26) as usize;
-    Room::new(rng, needed + more)
+    let from = if case.wants_samples() { 0 } else { anywhere(rng) };
+    Room::new(rng, needed + more).begun_at(from)
 }
 
 impl Line<'_> {
@@ -87,14 +93,15 @@ impl Line<'_> {
         all_same(format_args!("question {n}"), &numbers(reply), &self.record.asked[n].at)?;
         let again = open_question(&self.run);
         all_same("the open question", &numbers(&again), &numbers(reply))?;
-        holds(again.kind == 0 && again.number == reply.number, "the open question's number")
+        holds(again.kind == 0 && again.number == reply.number && again.stored == 0, "the open question's number, and nothing stored")
     }
 
     /// Which samples the call wrote: none, the startup's five, or one, and each as the module has it.
     fn written_by(&mut self, n: usize) -> Verdict<Due> {
         let first = self.written;
         let none = Due { first, count: 0 };
-        if !self.case.wants_samples() || !self.room.is_changed(10 * first, 10 * first + 10) {
+        let place = self.room.place(first);
+        if !self.case.wants_samples() || !self.room.is_changed(place, place + 10) {
             return Ok(none);
         }
         let count = if first == 0 { 5 } else { 1 };
@@ -106,12 +113,13 @@ impl Line<'_> {
     }
 
     fn accept_sample(&mut self, sample: usize, n: usize) -> Verdict {
-        let ten = self.room.numbers(10 * sample, 10 * sample + 10);
+        let place = self.room.place(sample);
+        let ten = self.room.numbers(place, place + 10);
         let wanted = match &self.record.samples {
             Some(all) => all.get(sample).ok_or("a sample that the module has not")?.to_vec(),
             None => ten.clone(),
         };
-        self.room.accept(format_args!("sample {sample}"), 10 * sample, &wanted)?;
+        self.room.accept(format_args!("sample {sample}"), place, &wanted)?;
         self.check_moment(sample, &ten, n)
     }
 
@@ -130,10 +138,15 @@ impl Line<'_> {
     fn answers(&mut self, n: usize, rng: &mut Random, tally: &mut Tally) -> Verdict<Reply> {
         let before = self.run.clone();
         let a = self.record.asked[n].a;
+        if let Some(room) = self.rooms.next(self.written) {
+            self.room = room;
+        }
         let reply = answer(&mut self.run, n as u16, a, &mut self.room);
         let due = self.written_by(n)?;
-        tally.samples += due.count as u64;
-        self.room.is_as_expected(10 * self.written)?;
+        holds(reply.stored == due.count as u64, format_args!("{} samples told as stored, {} found", reply.stored, due.count))?;
+        tally.samples += reply.stored;
+        tally.rooms.count(reply.kind, reply.stored);
+        self.room.is_as_expected(self.room.place(self.written))?;
         if rng.once_in(if due.count > 0 { 4 } else { 24 }) {
             tamper::twin(self, before, n, due, &reply, rng, tally)?;
         }
@@ -153,7 +166,7 @@ impl Line<'_> {
             }
             Err(_) => {
                 tally.refused[2] += 1;
-                holds(is_refused(reply, 2), "refusal 2 was due")?;
+                holds(is_refused_after(reply, 2), "refusal 2 was due")?;
                 self.case.settings.max_steps.max(4) as usize
             }
         };
@@ -166,46 +179,6 @@ impl Line<'_> {
         }
         check_ended(&mut self.run, rng, tally)
     }
-}
-
-/// A start that is due to be refused by this number, and leaves no run.
-fn refused_start(case: &Case, settings: Settings, refusal: u16, rng: &mut Random, tally: &mut Tally) -> Verdict {
-    let mut run = Run([rng.bits(); 132]);
-    tally.refused[usize::from(refusal)] += 1;
-    holds(is_refused(&start(&mut run, case, settings), refusal), format_args!("refusal {refusal} was due"))?;
-    check_ended(&mut run, rng, tally)
-}
-
-/// A setting over its limit: refusal 5, whatever else.
-fn over_a_limit(case: &Case, rng: &mut Random, tally: &mut Tally) -> Verdict {
-    let mut settings = case.settings;
-    let by = rng.pick(&[1, 2, 1000, u64::MAX - 1_000_000]);
-    match rng.below(3) {
-        0 => settings.max_corrector_iters = 100 + by,
-        1 => settings.max_startup_iters = 100 + by,
-        _ => settings.max_steps = 1_000_000 + by,
-    }
-    refused_start(case, settings, 5, rng, tally)
-}
-
-/// Some of the three dates blank, where the others may ask for refusal 1: 12; over a limit it is 5 all the same.
-fn blank_dates(case: &Case, rng: &mut Random, tally: &mut Tally) -> Verdict {
-    let mut case = case.clone();
-    match rng.below(4) {
-        0 => case.settings.h = 0.0,
-        1 => case.tf = case.t0,
-        _ => (),
-    }
-    for _ in 0..rng.pick(&[1, 1, 2, 3]) {
-        let blank = f64::from_bits(rng.pick(&BLANKS));
-        match rng.below(3) {
-            0 => case.t0 = blank,
-            1 => case.tf = blank,
-            _ => case.settings.h = blank,
-        }
-    }
-    over_a_limit(&case, rng, tally)?;
-    refused_start(&case, case.settings, 12, rng, tally)
 }
 
 pub fn follow(case: &Case, judge: &mut Judge, rng: &mut Random, tally: &mut Tally) -> Verdict {
@@ -226,7 +199,9 @@ pub fn follow(case: &Case, judge: &mut Judge, rng: &mut Random, tally: &mut Tall
     let mut run = Run([rng.bits(); 132]);
     let mut reply = start(&mut run, case, case.settings);
     let room = room_for(case, &record, rng);
-    let mut line = Line { case, record, run, room, written: 0, away: Away::new(case.away, rng) };
+    holds(reply.stored == 0, "a start told samples as stored")?;
+    let rooms = Rooms::of(rng, case.wants_samples(), &mut tally.rooms);
+    let mut line = Line { case, record, run, room, rooms, written: 0, away: Away::new(case.away, rng) };
     let mut n = 0;
     while n < line.record.asked.len() {
         line.asks(&reply, n)?;

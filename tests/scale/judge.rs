@@ -77,7 +77,7 @@ fn judge_one(form: &Form, bytes: &[u8], held: &Run, rng: &mut Random, tally: &mu
 
 /// The second writing's run with its open question; stored, it gives the same bytes but for NaN patterns.
 fn taken(bytes: &[u8], run: &Run, due: &Run, reply: &Reply, rng: &mut Random, tally: &mut Tally) -> Verdict {
-    let plain = reply.kind == 0 && reply.refusal == 0 && reply.evals | reply.steps | reply.startup_iters == 0;
+    let plain = reply.kind == 0 && reply.refusal == 0 && reply.evals | reply.steps | reply.startup_iters | reply.stored == 0;
     let (number, question) = questions::open(due);
     holds(plain && reply.number == number, "a form that is one was not taken")?;
     all_same("the question of a damaged form that loads", &numbers(reply), &question)?;

@@ -1,8 +1,8 @@
 // SPDX-License-Identifier: MIT OR Apache-2.0
 //! The module and the library in one process, on the same cases: every question, sample, state, count and refusal, and every byte of the
 //! buffers, written and not written; runs put away and taken up, damaged forms, accelerations between samples, and whole-second starts with their
-//! costs, against a second writing of W-201, W-202, W-203 and W-206. Cases come on standard input, as `oracle cases` writes them, tolerances of any
-//! value among them; the tampering and the whole-second starts come from a seed.
+//! costs, against a second writing of W-201, W-202, W-203, W-206 and W-207. Cases come on standard input, as `oracle cases` writes them, tolerances of
+//! any value among them; the tampering, the whole-second starts and the rooms come from a seed.
 #[path = "../../oracle/src/force.rs"]
 mod force;
 #[path = "../../oracle/src/random.rs"]
@@ -28,7 +28,9 @@ mod played;
 mod pull;
 mod questions;
 mod record;
+mod refused;
 mod room;
+mod rooms;
 mod starts;
 mod stored;
 mod tally;
@@ -90,7 +92,7 @@ fn end(tally: &Tally, seed: u64, spent: f64) -> i32 {
     tally.print(seed, spent);
     let met = tally.forms.every_kind_was_met().and(tally.every_refusal_was_met());
     let met = met.and(tally.every_acceleration_was_met()).and(tally.every_tolerance_was_met());
-    match met.and(tally.every_whole_start_was_met()) {
+    match met.and(tally.every_whole_start_was_met()).and(tally.every_room_was_met()) {
         Ok(()) => 0,
         Err(fault) => {
             println!("{fault}");

@@ -1,14 +1,16 @@
 // SPDX-License-Identifier: MIT OR Apache-2.0
-//! Whole-second runs played to their end, with accelerations of any kind and no more room than was told: each ends as told beforehand.
+//! Whole-second runs played to their end, with accelerations of any kind and no more room than was told, or than is due: each ends as told beforehand.
 use crate::case::Case;
 use crate::check::{holds, same, Verdict};
 use crate::costs::{forecast, Start, Whole};
+use crate::counting;
 use crate::follow::{answer, check_ended, is_refused};
 use crate::pull::Pull;
 use crate::random::Random;
-use crate::raw::{Cost, Reply, Triple};
+use crate::raw::{Cost, Reply, Run, Triple};
 use crate::record::Record;
 use crate::room::Room;
+use crate::rooms::Rooms;
 use crate::tally::Tally;
 use crate::whole::Begun;
 
@@ -16,19 +18,22 @@ struct Play {
     begun: Begun,
     pull: Pull,
     room: Room,
-    /// Whether the room is one number short.
+    rooms: Rooms,
+    /// Whether the one room is one number short.
     is_short: bool,
-    /// Samples that stand in the room, and answers accepted.
+    /// Samples stored so far, and answers accepted.
     written: usize,
     answers: u64,
 }
 
 impl Play {
-    fn new(begun: Begun, case: &Case, rng: &mut Random) -> Play {
+    fn new(begun: Begun, case: &Case, rng: &mut Random, tally: &mut Tally) -> Play {
+        let rooms = Rooms::of(rng, begun.cost.numbers > 0, &mut tally.rooms);
         let is_short = begun.cost.numbers > 0 && rng.once_in(4);
         let room = Room::new(rng, begun.cost.numbers as usize - usize::from(is_short));
         let pull = Pull::of(case, begun.whole.step, rng);
-        Play { begun, pull, room, is_short, written: 0, answers: 0 }
+        let is_short = is_short && !rooms.are_small();
+        Play { begun, pull, room, rooms, is_short, written: 0, answers: 0 }
     }
 
     /// An answer under another number: 8, and nothing moves.
@@ -39,21 +44,45 @@ impl Play {
         tally.refused[8] += 1;
         tally.wholes.played.wrong_numbers += 1;
         holds(is_refused(&reply, 8) && before.0 == self.begun.run.0, "refusal 8 was due, and the same run")?;
-        self.room.is_as_expected(10 * self.written)
+        self.room.is_as_expected(self.room.place(self.written))
+    }
+
+    /// The same answer on a copy of the run, with a room that begins after the next sample: 6 where a sample is due, and where none is, the same.
+    fn answer_late(&mut self, mut copy: Run, asked: &Reply, a: Triple, reply: &Reply, tally: &mut Tally) -> Verdict {
+        let mut room = self.rooms.late(self.written - reply.stored as usize);
+        let late = answer(&mut copy, asked.number, a, &mut room);
+        if reply.stored == 0 {
+            tally.rooms.late_and_none_due += 1;
+            holds(late.kind == reply.kind && late.number == reply.number && late.stored == 0, "where none was due a late room was refused")?;
+        } else {
+            tally.rooms.late += 1;
+            tally.refused[6] += 1;
+            holds(is_refused(&late, 6) && counting::is_ended(&copy), "refusal 6 was due to a late room, and an ended run")?;
+        }
+        room.whole_is_as_expected()
     }
 
     fn answer(&mut self, asked: &Reply, rng: &mut Random, tally: &mut Tally) -> Verdict<Reply> {
-        let before = self.is_short.then(|| self.begun.run.clone());
+        if let Some(room) = self.rooms.next(self.written) {
+            self.room = room;
+        }
+        let before = self.begun.run.clone();
         let a = self.pull.on(asked, rng);
         let mut reply = answer(&mut self.begun.run, asked.number, a, &mut self.room);
-        if let (Some(before), 1 | 2) = (before, reply.kind) {
+        if self.is_short && reply.kind != 0 {
             self.lacks_room(&reply, rng, tally)?;
-            self.begun.run = before;
+            self.begun.run = before.clone();
             reply = answer(&mut self.begun.run, asked.number, a, &mut self.room);
         }
         self.answers += 1;
-        if self.take_samples(asked, a)? || rng.once_in(16) {
-            self.room.is_as_expected(10 * self.written)?;
+        let stored = self.take_samples(asked, a)?;
+        holds(reply.stored == stored, format_args!("{} samples told as stored, {stored} found", reply.stored))?;
+        tally.rooms.count(reply.kind, stored);
+        if stored > 0 || rng.once_in(16) {
+            self.room.is_as_expected(self.room.place(self.written))?;
+        }
+        if self.rooms.are_small() {
+            self.answer_late(before, asked, a, &reply, tally)?;
         }
         Ok(reply)
     }
@@ -71,23 +100,25 @@ impl Play {
         Ok(())
     }
 
-    /// The samples that an answer wrote, none, the startup's five or one: each at its time, and after the startup with the answer itself.
-    fn take_samples(&mut self, asked: &Reply, a: Triple) -> Verdict<bool> {
+    /// The samples that an answer wrote, none, the startup's five or one: each at its time, and after the startup with the answer itself. How many.
+    fn take_samples(&mut self, asked: &Reply, a: Triple) -> Verdict<u64> {
         let first = self.written;
-        if !self.room.is_changed(10 * first, 10 * first + 10) {
-            return Ok(false);
+        let place = self.room.place(first);
+        if !self.room.is_changed(place, place + 10) {
+            return Ok(0);
         }
         let count = if first == 0 { 5 } else { 1 };
         for n in first..first + count {
-            let ten = self.room.numbers(10 * n, 10 * n + 10);
+            let place = self.room.place(n);
+            let ten = self.room.numbers(place, place + 10);
             let time = self.begun.whole.time(n);
             holds(ten[0] == time, format_args!("sample {n} stands at {}, not at {time}", ten[0]))?;
             let own = same(ten[0], asked.t) && same(ten[7], a.x) && same(ten[8], a.y) && same(ten[9], a.z);
             holds(n <= 4 || own, format_args!("sample {n} is not of answer {}", self.answers))?;
-            self.room.accept(format_args!("sample {n}"), 10 * n, &ten)?;
+            self.room.accept(format_args!("sample {n}"), place, &ten)?;
         }
         self.written += count;
-        Ok(true)
+        Ok(count as u64)
     }
 
     fn end(&mut self, reply: &Reply, rng: &mut Random, tally: &mut Tally) -> Verdict {
@@ -104,7 +135,7 @@ impl Play {
 /// To the end, by no more answers than were told.
 pub fn play(begun: Begun, case: &Case, rng: &mut Random, tally: &mut Tally) -> Verdict {
     let mut reply = begun.reply;
-    let mut play = Play::new(begun, case, rng);
+    let mut play = Play::new(begun, case, rng, tally);
     while reply.kind == 0 {
         holds(play.answers < play.begun.cost.most, "a run goes on after as many answers as were told at most")?;
         if rng.once_in(64) {

@@ -12,6 +12,8 @@ pub struct Room {
     words: Vec<u64>,
     expected: Vec<u64>,
     count: usize,
+    /// The sample that it begins at.
+    from: u64,
     looks: usize,
 }
 
@@ -19,7 +21,21 @@ impl Room {
     pub fn new(rng: &mut Random, count: usize) -> Room {
         let base = rng.bits();
         let words: Vec<u64> = (0..count + 2 * GUARD).map(|i| base ^ (i as u64).wrapping_mul(0x9e3779b97f4a7c15)).collect();
-        Room { expected: words.clone(), words, count, looks: 0 }
+        Room { expected: words.clone(), words, count, from: 0, looks: 0 }
+    }
+
+    /// The same, from another sample on.
+    pub fn begun_at(self, from: u64) -> Room {
+        Room { from, ..self }
+    }
+
+    pub fn from(&self) -> u64 {
+        self.from
+    }
+
+    /// Where sample n stands, which must not be before the first: 10(n - b).
+    pub fn place(&self, n: usize) -> usize {
+        10 * (n as u64).saturating_sub(self.from) as usize
     }
 
     /// What the caller puts there before a call that only reads it.

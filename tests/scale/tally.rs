@@ -2,6 +2,7 @@
 //! What was compared, counted.
 use crate::case::{Case, Sharpness};
 use crate::check::{holds, Verdict};
+use crate::rooms::Counts;
 use crate::whole_tally::Wholes;
 
 /// Damaged forms, by what became of them.
@@ -17,7 +18,7 @@ pub struct Forms {
     pub other_nan: u64,
 }
 
-/// Refusals have numbers from 1 to this.
+/// Refusals that the library's calls give have numbers from 1 to this.
 const REFUSALS: usize = 14;
 
 /// From so many cases on, each refusal must be among them, and each kind of whole-second start.
@@ -113,6 +114,7 @@ pub struct Tally {
     pub accelerations: Accelerations,
     pub tolerances: Tolerances,
     pub wholes: Wholes,
+    pub rooms: Counts,
     /// Runs put away and taken up in the middle of their line; and older forms taken up again.
     pub away: u64,
     pub older: u64,
@@ -133,6 +135,7 @@ impl Tally {
         println!("    components of their accelerations: {} finite, {} infinite, {} NaN", a.finite, a.infinite, a.nan);
         self.tolerances.print();
         self.wholes.print();
+        self.rooms.print();
         println!("  {} times put away and taken up, {} older forms taken up again", self.away, self.older);
         self.forms.print();
     }
@@ -142,6 +145,13 @@ impl Tally {
         let is_left_out = |n: usize| cfg!(not(feature = "dense")) && [3, 4, 9].contains(&n);
         let missing = (1..=REFUSALS).find(|n| self.refused[*n] == 0 && !is_left_out(*n));
         holds(self.cases < ENOUGH_CASES || missing.is_none(), format_args!("refusal {missing:?} did not occur"))
+    }
+
+    pub fn every_room_was_met(&self) -> Verdict {
+        if self.cases < ENOUGH_CASES {
+            return Ok(());
+        }
+        self.rooms.every_kind_was_met()
     }
 
     pub fn every_whole_start_was_met(&self) -> Verdict {

@@ -9,6 +9,7 @@ use crate::questions;
 use crate::random::Random;
 use crate::raw::{Reply, Run, Triple};
 use crate::room::Room;
+use crate::rooms::{anywhere, aside};
 use crate::tally::Tally;
 
 pub fn before_an_answer(line: &mut Line, n: usize, rng: &mut Random, tally: &mut Tally) -> Verdict {
@@ -31,12 +32,23 @@ fn stale(line: &mut Line, n: usize, rng: &mut Random, tally: &mut Tally) -> Verd
     tally.refused[8] += 1;
     holds(is_refused(&reply, 8), "refusal 8 was due")?;
     holds(before.0 == line.run.0, "refusal 8 changed the run")?;
-    line.room.is_as_expected(10 * line.written)
+    line.room.is_as_expected(line.room.place(line.written))
+}
+
+/// Where the copy's room begins: at sample 0, at what is due, between, or after it.
+fn other_begin(due: Due, rng: &Random) -> u64 {
+    let (mut rng, first) = (aside(rng), due.first as u64);
+    let later = first + rng.pick(&[1, 1, 2, 5, 1 << 63, u64::MAX - first]);
+    match rng.below(6) {
+        0 | 1 => 0,
+        2 => first,
+        3 => rng.below(first + 1),
+        _ => later,
+    }
 }
 
 /// How large a room the copy gets: short by one, just enough, empty, or anything.
-fn other_size(due: Due, rng: &mut Random) -> usize {
-    let needed = 10 * (due.first + due.count);
+fn other_size(needed: usize, rng: &mut Random) -> usize {
     match rng.below(6) {
         0 => 0,
         1 | 2 => needed.saturating_sub(1),
@@ -48,22 +60,28 @@ fn other_size(due: Due, rng: &mut Random) -> usize {
 
 /// The same answer to a copy of the run, with another room: the same reply, or 6 where what is due does not fit.
 pub fn twin(line: &Line, mut copy: Run, n: usize, due: Due, reply: &Reply, rng: &mut Random, tally: &mut Tally) -> Verdict {
-    let count = other_size(due, rng);
-    let mut room = Room::new(rng, count);
-    let (from, to) = (10 * due.first, 10 * (due.first + due.count));
+    let begin = other_begin(due, rng);
+    let is_late = begin > due.first as u64;
+    let from = 10 * (due.first as u64).saturating_sub(begin) as usize;
+    let to = from + 10 * due.count;
+    let count = other_size(to, rng);
+    let mut room = Room::new(rng, count).begun_at(begin);
     let got = answer(&mut copy, n as u16, line.record.asked[n].a, &mut room);
     tally.twins += 1;
-    if due.count > 0 && room.count() < to {
+    tally.rooms.late_and_none_due += u64::from(is_late && due.count == 0);
+    if due.count > 0 && (is_late || room.count() < to) {
         tally.refused[6] += 1;
+        tally.rooms.late += u64::from(is_late);
         holds(is_refused(&got, 6), "refusal 6 was due")?;
         room.whole_is_as_expected()?;
         return check_ended(&mut copy, rng, tally);
     }
     all_same("the copy's reply", &numbers(&got), &numbers(reply))?;
-    let plain = |r: &Reply| (r.kind, r.refusal, r.number, r.evals, r.steps, r.startup_iters);
+    let plain = |r: &Reply| (r.kind, r.refusal, r.number, r.evals, r.steps, r.startup_iters, r.stored);
     holds(plain(&got) == plain(reply) && counting::are_same(&copy, &line.run), "a copy of the run goes another way")?;
     if due.count > 0 {
-        room.accept("the copy's samples", from, &line.room.numbers(from, to))?;
+        let own = line.room.place(due.first);
+        room.accept("the copy's samples", from, &line.room.numbers(own, own + 10 * due.count))?;
     }
     room.whole_is_as_expected()
 }
@@ -119,7 +137,7 @@ fn made_up(line_run: &Run, rng: &mut Random, tally: &mut Tally) -> Verdict {
         alter(&mut run, rng);
     }
     let count = rng.below(80) as usize;
-    let mut room = Room::new(rng, count);
+    let mut room = Room::new(rng, count).begun_at(anywhere(rng));
     let before = run.clone();
     let number = if rng.once_in(8) { rng.bits() as u16 } else { counting::number(&run) };
     let open = open_question(&run);
@@ -141,5 +159,6 @@ fn made_up(line_run: &Run, rng: &mut Random, tally: &mut Tally) -> Verdict {
         tally.refused[8] += 1;
         return holds(is_refused(&told, 8) && before.0 == run.0, "refusal 8 was due to an altered run");
     }
-    holds(told.kind < 2 || told.refusal == 2 || told.refusal == 6, "an altered run within the counting takes its answer")
+    holds(told.kind < 2 || told.refusal == 2 || told.refusal == 6, "an altered run within the counting takes its answer")?;
+    holds([0, 1, 5].contains(&told.stored), format_args!("{} samples told as stored by an altered run", told.stored))
 }

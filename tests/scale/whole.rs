@@ -100,8 +100,8 @@ fn plain_start(start: &Start, place: Place, rng: &mut Random) -> (Run, Reply) {
 /// A plain start of the same values: the same question and the same run.
 fn is_taken_too(start: &Start, (r, v): Place, run: &Run, reply: &Reply, rng: &mut Random) -> Verdict {
     let (plain_run, plain) = plain_start(start, (r, v), rng);
-    let counts = |x: &Reply| (x.kind, x.refusal, x.number, x.evals, x.steps, x.startup_iters);
-    holds(counts(reply) == (0, 0, 0, 0, 0, 0), "an accepted whole-second start does not tell question 0")?;
+    let counts = |x: &Reply| (x.kind, x.refusal, x.number, x.evals, x.steps, x.startup_iters, x.stored);
+    holds(counts(reply) == (0, 0, 0, 0, 0, 0, 0), "an accepted whole-second start does not tell question 0")?;
     holds(counts(&plain) == counts(reply), "a plain start of the same values tells something else")?;
     all_same("question 0 of a whole-second start", &numbers(reply), &[start.t0, r.x, r.y, r.z, v.x, v.y, v.z])?;
     all_same("question 0 of the plain start", &numbers(&plain), &numbers(reply))?;
