@@ -25,8 +25,8 @@
  *
  * The library, measured by tests/symbols/run and tests/stack/run: x86-64 Linux, System V calls, position-independent; needs memcpy and
  * memset and nothing else; has no data of its own, so threads may call it at the same time on runs of their own; exports gj_* alone.
- * Nothing is allocated. A call takes at most 32 KiB of stack: at last count an answer 24,728 bytes in the startup and 18,024 afterwards, a
- * start 6,968, a whole-second start 8,088, an open question 3,864, a storing 5,288, a loading 10,280, a forecast or an interpolation under
+ * Nothing is allocated. A call takes at most 32 KiB of stack: at last count an answer 24,744 bytes in the startup and 18,040 afterwards, a
+ * start 6,984, a whole-second start 8,104, an open question 3,864, a storing 5,288, a loading 10,280, a forecast or an interpolation under
  * 500. (Where the program's loader looks for memcpy only when it is first called, that call takes some 3,000 more.)
  *
  * What the caller owes, since no proof reaches it:

@@ -49,11 +49,11 @@ static void mark_place(map letters, double t, const double *r, char letter) {
 }
 
 /* The step at which the last `revolutions` begin: that many times back up through the equator. */
-static int first_step(const double *samples, int revolutions) {
+static int first_step(const double *last_day, int revolutions) {
     int n = STEPS;
-    while (n > 0 && revolutions >= 0) {
+    while (n > FIRST_KEPT && revolutions >= 0) {
         n--;
-        const double *s = samples + GJ_SAMPLE_NUMBERS * n;
+        const double *s = last_day + GJ_SAMPLE_NUMBERS * (n - FIRST_KEPT);
         revolutions -= s[3] < 0.0 && s[3 + GJ_SAMPLE_NUMBERS] >= 0.0;
     }
     return n;
@@ -70,13 +70,13 @@ static void print_map(map letters) {
     }
 }
 
-uint32_t draw_track(const double *samples, int revolutions) {
+uint32_t draw_track(const double *last_day, int revolutions) {
     static double times[MOST], places[GJ_BETWEEN_NUMBERS * MOST];
     static map letters;
-    int from = first_step(samples, revolutions), count = 0, at = 0;
+    int from = first_step(last_day, revolutions), count = 0, at = 0;
     for (double t = (double)from * STEP; t <= (double)STEPS * STEP && count < MOST; t += EVERY) times[count++] = t;
     uint32_t refusal =
-        gj_interpolate_batch(times, (size_t)count, samples, NUMBERS, places, (size_t)GJ_BETWEEN_NUMBERS * (size_t)count);
+        gj_interpolate_batch(times, (size_t)count, last_day, KEPT_NUMBERS, places, (size_t)GJ_BETWEEN_NUMBERS * (size_t)count);
     if (refusal != 0) return refusal;
     memcpy(letters, LAND, sizeof letters);
     for (int i = 0; i < count; i++) {

@@ -7,6 +7,7 @@
 #define isfinite(x) __builtin_isfinite(x)
 double fabs(double x);
 double fmax(double x, double y);
+double fmin(double x, double y);
 double floor(double x);
 double fmod(double x, double y);
 double sqrt(double x);
