@@ -27,11 +27,10 @@ fn put_text(line: &mut [u8], at: usize, text: &[u8]) -> usize {
     n
 }
 
+// A blank and a number.
 fn put_decimal(line: &mut [u8], at: usize, n: u64) -> usize {
-    let mut digits = [0u8; 20];
-    let used = io::decimal(n, &mut digits);
     let blank = put(line, at, b' ');
-    put_text(line, blank, &digits[..used])
+    lines::put_decimal(n, blank, line)
 }
 
 // A blank and sixteen hex digits, or a blank and nan.
@@ -40,11 +39,7 @@ fn put_float(line: &mut [u8], at: usize, x: f64) -> usize {
     let p = bits::pattern_of(x);
     match p {
         Pattern::Nan => put_text(line, blank, b"nan"),
-        Pattern::Bits(n) => {
-            let mut digits = [0u8; 16];
-            let used = io::hex(n, 16, &mut digits);
-            put_text(line, blank, &digits[..used])
-        }
+        Pattern::Bits(n) => lines::put_hex(n, blank, line),
     }
 }
 

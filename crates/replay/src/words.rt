@@ -71,36 +71,21 @@ pub fn is_text(line: &[u8], w: Word, text: &[u8]) -> bool {
     check::same(&line[start..end], text)
 }
 
-// The value of a hex digit, 16 for any other byte.
-fn hex_digit(b: u8) -> u64 {
+// The value of a decimal digit, 10 for any other byte.
+fn numeral(b: u8) -> u64 {
     if b < b'0' {
-        return 16;
+        return 10;
     }
     if b <= b'9' {
         return (b - b'0') as u64;
     }
-    if b < b'A' {
-        return 16;
-    }
-    if b <= b'F' {
-        return (b - b'A') as u64 + 10;
-    }
-    if b < b'a' {
-        return 16;
-    }
-    if b <= b'f' {
-        return (b - b'a') as u64 + 10;
-    }
-    16
+    10
 }
 
-// One digit more; the base is 16, 10 or else 2.
+// One digit more; the base is 10 or else 2.
 fn with_digit(value: u64, base: u64, d: u64) -> u64
     requires { ⌜ (value < 2 ^ 60) × (d < 16) ⌝ }
 {
-    if base == 16 {
-        return value * 16 + d;
-    }
     if base == 10 {
         return value * 10 + d;
     }
@@ -125,7 +110,7 @@ fn digits(line: &[u8], w: Word, base: u64, least: usize, most: usize) -> Number 
     }
     let mut value: u64 = 0;
     while i < end {
-        let d = hex_digit(line[i]);
+        let d = numeral(line[i]);
         if d >= base {
             return Number::Bad;
         }
@@ -143,7 +128,19 @@ fn digits(line: &[u8], w: Word, base: u64, least: usize, most: usize) -> Number 
 
 // Sixteen hex digits: a float's bits.
 pub fn hex_word(line: &[u8], w: Word) -> Number {
-    digits(line, w, 16, 16, 16)
+    let start = w.start;
+    let end = w.end;
+    if start > end {
+        return Number::Bad;
+    }
+    if end - start != 16 {
+        return Number::Bad;
+    }
+    let read = lines::read_hex(line, start);
+    if !read.ok {
+        return Number::Bad;
+    }
+    Number::Is(read.value)
 }
 
 // One to ten decimal digits: a count.
