@@ -7,3 +7,5 @@ pub mod Values
 pub mod Nines
 pub mod Fields
 pub mod Eight
+pub mod Trips
+pub mod Examples

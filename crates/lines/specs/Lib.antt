@@ -4,3 +4,4 @@ pub mod Words
 pub mod Lines
 pub mod Read
 pub mod Nine
+pub mod Trips
