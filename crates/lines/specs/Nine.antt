@@ -7,7 +7,7 @@ use lib.ListN.{length, getD, take, drop, replicate}
 use Rattle.lines.specs.declared.Nine.{Nine}
 use Rattle.lines.specs.Read.{areDigits, valueOf}
 
--- a text that begins with a line: sixteen digits, a newline
+-- a text that begins with a line: seventeen bytes are there, sixteen digits and a newline
 unfoldable pub beginsWithLine : List ℕ → Bool
 beginsWithLine text = leb 17 (length text) && (areDigits (take 16 text) && eqb (getD text 16 10) 10)
 
