@@ -1,0 +1,4 @@
+pub mod OneMore
+pub mod Fitting
+pub mod APiece
+pub mod Whole
