@@ -1,5 +1,5 @@
 -- Every call with fifty numbers makes an answer or finds the flight over, and a run has fewer than `ample` answers.
-use mathlib.Core.Path.{_≡_, refl, sym, ap, subst, _∙_}
+use mathlib.Core.Path.{_≡_, refl, sym, subst}
 use mathlib.Core.Logic.{inl, inr}
 use Prim.Native.Nat.{ℕ, _+_, _*_, _≤_, _<_}
 use native.Mathlib.Nat.{add-zero}
@@ -15,7 +15,7 @@ use Rattle.plan.specs.declared.Settings.{Settings}
 use Rattle.plan.specs.declared.Plan.{Plan}
 use Rattle.run.specs.declared.Run.{Run}
 use Rattle.run.specs.Limits.{ample}
-use Rattle.run.specs.Samples.{isPlaced, hasRoom}
+use Rattle.run.specs.Samples.{hasRoom}
 use Rattle.run.specs.Sound.{isSound}
 use Rattle.run.proofs.Counts.{evals-small}
 use Rattle.rules.specs.Walk.{Line, open-at, over}
@@ -27,7 +27,7 @@ use Rattle.flight.specs.Flight.{takenOff, beyond, isReady, flownOn}
 use Rattle.flight.specs.Story.{Story, storyOf}
 use Rattle.flight.specs.Told.{flownThrough}
 use Rattle.flight.specs.Ends.{Fifty, AlwaysEnds}
-use Rattle.flight.proofs.Tales.{Open, Over, Tells, Goes}
+use Rattle.flight.proofs.Tales.{Open, Tells, Goes}
 use Rattle.flight.proofs.Telling.{turn, piece-goes, call-goes, claims, plan, start-tells}
 
 -- ---- the answers that a line counts

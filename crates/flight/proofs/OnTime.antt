@@ -16,9 +16,8 @@ use Rattle.plan.specs.Limits.{wantsSamples}
 use Rattle.plan.specs.Plan.{planOf}
 use Rattle.rules.specs.Rules.{Course, asks, stores, ends, exceeds, integrate}
 use Rattle.point_mass.specs.Force.{distance, isTooLow, pull}
-use Rattle.whole.specs.Whole.{IsWhole}
 use Rattle.counting.specs.Paths.{Claims, Each, Always}
-use Rattle.counting.specs.Counting.{spanOf, stepsFor, whenFor, onTime}
+use Rattle.counting.specs.Counting.{spanOf, stepsFor, onTime}
 use Rattle.counting.proofs.OnTime.{ends-on-time}
 use Rattle.flight.specs.Story.{Entry, Story, numbered, nothingMore, before, story, storyBy, storyOf}
 use Rattle.flight.specs.OnTime.{InStep, TellsOnTime, StoryOnTime}

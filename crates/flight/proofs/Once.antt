@@ -8,7 +8,7 @@ use Rattle.refusals.specs.Numbers.{numberOf}
 use Rattle.refusals.specs.declared.Refusal.the-variants.{TooLow}
 use Rattle.point_mass.specs.Force.{pullAt}
 use Rattle.flight.specs.declared.Flight.{Flight}
-use Rattle.flight.specs.Flight.{Flown, landed, answeredBy, answeredOnce}
+use Rattle.flight.specs.Flight.{landed, answeredBy, answeredOnce}
 
 module _ (from : ℕ) (f : Flight) (numbers : List Float) where
   pub once-low : pullAt (f .question .r) .low ≡ true → answeredOnce from f numbers ≡ record { flight = landed (f .run) (f .next) (numberOf TooLow); out = numbers }

@@ -11,7 +11,7 @@ use borrow.Author.Tests.{ltb-true}
 use Rattle.run.specs.Samples.{isPlaced}
 use Rattle.run.proofs.Counts.{both}
 use Rattle.flight.specs.declared.Flight.{Flight}
-use Rattle.flight.specs.Flight.{Flown, beyond, isReady, answeredOnce, flownBy}
+use Rattle.flight.specs.Flight.{beyond, isReady, answeredOnce, flownBy}
 
 module _ (from : ℕ) (f : Flight) (numbers : List Float) where
   abbrev ready : Type 0

@@ -6,7 +6,7 @@ use Prim.Native.Nat.{ℕ, _+_, _≤_}
 use native.Mathlib.Nat.{add-zero}
 use native.Mathlib.Omega.{arith}
 use mathlib.Core.Bool.{Bool, true, false, cond}
-use mathlib.Core.List.{List, [], _∷_, _++_}
+use mathlib.Core.List.{List, [], _++_}
 use lib.ListN.{length, length-append}
 use Rattle.triple.specs.declared.Triple.{Triple}
 use Rattle.triple.specs.declared.Point.{Point}
@@ -17,10 +17,10 @@ use Rattle.run.specs.Samples.{Room, hasRoom, putAll}
 use Rattle.run.proofs.Placing.{room-within, room-put-all}
 use Rattle.rules.specs.Rules.{Course, asks, stores, ends, exceeds}
 use Rattle.rules.specs.Asked.{due, AsListed}
-use Rattle.rules.specs.Walk.{Said, question, finished, refused, Line, open-at, over, Stop, afterStoring, settle}
+use Rattle.rules.specs.Walk.{Said, question, finished, refused, open-at, over, Stop, afterStoring, settle}
 use Rattle.counting.specs.Paths.{Claims, Always}
 use Rattle.counting.proofs.Lines.{put-more}
-use Rattle.flight.specs.Story.{Entry, Story, numbered, nothingMore, before, story}
+use Rattle.flight.specs.Story.{Story, numbered, nothingMore, before, story}
 use Rattle.flight.proofs.Rows.{told-more}
 
 -- ---- what is told, as a flight keeps it

@@ -1,7 +1,7 @@
 -- Piece after piece, call after call: what is handed out is the story.
 use mathlib.Core.Path.{_≡_, refl, sym, ap, subst, _∙_}
 use mathlib.Core.Logic.{_⊎_, inl, inr}
-use Prim.Native.Nat.{ℕ, zero, suc, _+_, _-_, _*_, _≤_, _<_}
+use Prim.Native.Nat.{ℕ, zero, suc, _+_, _-_, _*_, _≤_}
 use native.Mathlib.Nat.{add-zero}
 use native.Mathlib.Omega.{arith}
 use mathlib.Core.Bool.{Bool, true, false, false≢true}
@@ -29,13 +29,13 @@ use Rattle.counting.proofs.Marching.{by-the-clock}
 use Rattle.counting.proofs.Lines.{put-more}
 use Rattle.flight.specs.declared.Flight.{Flight}
 use Rattle.flight.specs.Flight.{takenOff, Flown, isReady, answeredOnce, flownBy, piece, flownOn}
-use Rattle.flight.specs.Story.{Entry, Story, numbered, nothingMore, before, story, storyBy, storyOf}
+use Rattle.flight.specs.Story.{Entry, Story, numbered, before, story, storyBy, storyOf}
 use Rattle.flight.specs.Told.{readFrom, handedOut, flownThrough, allHandedOut, TellsTheStory}
 use Rattle.flight.proofs.Pieces.{flown-stops, ready-is}
 use Rattle.flight.proofs.Rows.{length-put, told-more}
 use Rattle.flight.proofs.Reading.{read-back}
 use Rattle.flight.proofs.Settling.{Asked, Ended}
-use Rattle.flight.proofs.Tales.{Open, Over, Tells, since-less, arrives, Goes}
+use Rattle.flight.proofs.Tales.{Open, Tells, since-less, arrives, Goes}
 use Rattle.flight.proofs.Answering.{once-goes}
 
 module _ (p : Plan) (c : Claims) where

@@ -1,19 +1,18 @@
 -- One turn of a piece by the parts of a flight: what each way of the code makes of them is one answer.
 use mathlib.Core.Path.{_≡_, refl, sym, ap, _∙_, subst}
-use Prim.Native.Nat.{ℕ, _+_, _-_, _<_}
+use Prim.Native.Nat.{ℕ, _-_, _<_}
 use native.Mathlib.Nat.{add-zero}
-use mathlib.Core.Bool.{Bool, true, false}
+use mathlib.Core.Bool.{true, false}
 use mathlib.Core.List.{List}
 use lib.ListN.{length}
 use lib.Ieee.{Float}
 use Rattle.refusals.specs.Numbers.{numberOf}
 use Rattle.refusals.specs.declared.Refusal.the-variants.{TooLow}
 use Rattle.plan.specs.declared.Plan.{Plan}
-use Rattle.run.specs.Samples.{tens, numbersOf}
-use Rattle.gauss_jackson.specs.Answers.{Given}
+use Rattle.run.specs.Samples.{numbersOf}
 use Rattle.fastpath.specs.declared.Look.{Look}
 use Rattle.fastpath.specs.Looking.{lookedAt}
-use Rattle.fastpath.specs.Moving.{askedAgain, madeStep, keptStep, triedGiven, steppedGiven}
+use Rattle.fastpath.specs.Moving.{askedAgain, madeStep, keptStep}
 use Rattle.fastpath.proofs.SameAnswer.{same-again, same-on}
 use Rattle.point_mass.specs.declared.force.Pulled.{Pulled}
 use Rattle.point_mass.specs.Force.{pullAt}

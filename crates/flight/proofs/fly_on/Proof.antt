@@ -1,6 +1,5 @@
 -- `fly_on` is `flownOn`: what is left to do, from the flight with its parts in their places, leads where the whole leads.
 use mathlib.Core.Path.{_≡_, refl, sym, ap, _∙_}
-use Prim.Native.Nat.{_≤_}
 use native.Mathlib.Omega.{arith}
 use borrow.Author.Needs.{needs}
 use borrow.Author.Tests.{not-true, not-false}

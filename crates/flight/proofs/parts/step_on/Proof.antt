@@ -1,10 +1,8 @@
 -- `parts::step_on` is `steppedParts` of what `make_step` gives: one sample at most, so that the next number does not wrap.
-use mathlib.Core.Path.{_≡_}
 use Prim.Native.Nat.{_≤_}
 use mathlib.Core.Bool.{Bool, true, false}
 use native.Mathlib.Omega.{arith}
 use borrow.Author.Needs.{needs}
-use Rattle.plan.specs.Limits.{wantsSamples}
 use Rattle.fastpath.specs.Moving.{storedBy, madeStep}
 use Rattle.flight.specs.Parts.{steppedParts}
 use Rattle.flight.proofs.parts.step_on.Statement.{statement}
