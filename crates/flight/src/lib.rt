@@ -126,13 +126,10 @@ pub fn fly_on(flight: Flight, out: &mut [f64]) -> Flight
         if pulled.low {
             return land(parts::together(f, parts).run, parts.next, TOO_LOW);
         }
-        let look = fastpath::look_at(
-            parts.mark,
+        let look = parts::look_by(
+            parts,
             f.run.body.plan,
-            parts.track,
-            parts.trial,
             f.run.body.startup_iters,
-            parts.question.number,
             pulled.a,
             from,
             out.len(),

@@ -49,7 +49,7 @@ loop-again c =
       at .before .before .loop .inv .0,
       rw (c .try-again .ensures)
           (sym (turned-again _ _ _ _ _ _ (at .before .loop-test .taken) (sym (at .is-ready .ensures) ∙ not-false _ (c .before .before .before .before .before .if1 .left)) (c .before .before .before .before .pull-at .ensures)
-          (c .before .before .before .if2 .left) _ (c .before .before .look-at .ensures) (c .before .if3 .taken)) ∙ at .before .before .loop .inv .1),
+          (c .before .before .before .if2 .left) _ (c .before .before .look-by .ensures) (c .before .if3 .taken)) ∙ at .before .before .loop .inv .1),
     )
 
 -- ---- on
@@ -65,7 +65,7 @@ loop-again-2 c =
       omega (arith, c .before .before .step-on .kept, at .before .before .loop .inv .0),
       rw (c .before .before .step-on .ensures .0, c .before .before .step-on .ensures .1)
           (sym (turned-on _ _ _ _ _ _ (at .before .loop-test .taken) (sym (at .is-ready .ensures) ∙ not-false _ (look .before .before .before .if1 .left)) (look .before .before .pull-at .ensures)
-          (look .before .if2 .left) _ (look .look-at .ensures) (c .before .before .before .before .if4 .taken)) ∙ at .before .before .loop .inv .1),
+          (look .before .if2 .left) _ (look .look-by .ensures) (c .before .before .before .before .if4 .taken)) ∙ at .before .before .loop .inv .1),
     )
 
 -- ---- the plain way
