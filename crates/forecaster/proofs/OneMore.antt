@@ -117,6 +117,7 @@ refusal-more n bytes out₀ out after at end e l h r f g =
     let z : at ≡ 0 + length bytes = omega arith in
     let s = length-refusal n (places 19 n) refl in
     let o : length out ≡ length out₀ = ap (λ (b : List ℕ). length b) h ∙ length-over 0 bytes out₀ in
-    let fit : leb (at + (places 19 n + 1)) (length out) ≡ true = le-leb (at + (places 19 n + 1)) (length out) (omega arith) in
-    (f ∙ after-all (refusalLine n) (places 19 n + 1) at out s fit ∙ (omega (arith, length-append bytes (refusalLine n))),
-    g ∙ put-all (refusalLine n) (places 19 n + 1) at out s fit ∙ rw (h, z) (sym (over-append 0 bytes (refusalLine n) out₀)))
+    let fit : leb (at + (places 19 n + 1)) (length out) ≡ true = le-leb (at + (places 19 n + 1)) (length out) (omega arith) in (
+      f ∙ after-all (refusalLine n) (places 19 n + 1) at out s fit ∙ (omega (arith, length-append bytes (refusalLine n))),
+      g ∙ put-all (refusalLine n) (places 19 n + 1) at out s fit ∙ rw (h, z) (sym (over-append 0 bytes (refusalLine n) out₀)),
+    )

@@ -54,9 +54,10 @@ still-through : (k : ℕ) (f : Flight) → f .asks ≡ false → (flownThrough f
 unfolding flownThrough allHandedOut
 still-through zero f e = (refl, refl)
 still-through (suc k) f e =
-    let w = still-through k f e in
-    (ap (λ (g : Flown). flownThrough (g .flight) (rooms k)) (still f e) ∙ w .0,
-    ap (λ (g : Flown). handedOut f g ++ allHandedOut (g .flight) (rooms k)) (still f e) ∙ ap (λ (l : List Entry). l ++ allHandedOut f (rooms k)) (none-told f) ∙ w .1)
+    let w = still-through k f e in (
+      ap (λ (g : Flown). flownThrough (g .flight) (rooms k)) (still f e) ∙ w .0,
+      ap (λ (g : Flown). handedOut f g ++ allHandedOut (g .flight) (rooms k)) (still f e) ∙ ap (λ (l : List Entry). l ++ allHandedOut f (rooms k)) (none-told f) ∙ w .1,
+    )
 
 -- ---- a forecast that is over prints nothing more
 over-piece : (f : Forecast) → f .over ≡ true → pieceOf f ≡ record { forecast = f; bytes = [] }
@@ -171,13 +172,14 @@ module _ (s : Settings) (t0 tf : Float) (r0 v0 : Triple) where
   going k e =
       let t = tells-the-story s t0 tf r0 v0 (rooms k) in
       let here = allHandedOut start (rooms k) in
-      let more = t .left .samples in
-      (storyLines (t .left),
-      ap (λ (x : List ℕ). x ++ storyLines (t .left))
-      (printed-is k start ∙ ap (λ (b : Bool). entryLines here ++ cond b (endingLine (flownThrough start (rooms k) .ending)) []) e ∙ append-nil (entryLines here))
-      ∙ sym (append-assoc (entryLines here) (entryLines more) (endingLine (t .left .ending)))
-      ∙ ap (λ (x : List ℕ). x ++ endingLine (t .left .ending)) (sym (lines-more here more))
-      ∙ ap storyLines (t .so-far))
+      let more = t .left .samples in (
+        storyLines (t .left),
+        ap (λ (x : List ℕ). x ++ storyLines (t .left))
+            (printed-is k start ∙ ap (λ (b : Bool). entryLines here ++ cond b (endingLine (flownThrough start (rooms k) .ending)) []) e ∙ append-nil (entryLines here))
+            ∙ sym (append-assoc (entryLines here) (entryLines more) (endingLine (t .left .ending)))
+            ∙ ap (λ (x : List ℕ). x ++ endingLine (t .left .ending)) (sym (lines-more here more))
+            ∙ ap storyLines (t .so-far),
+      )
 
   read-so-far : (k : ℕ) → (rest : List ℕ) × (printedAfter k (flying start) ++ rest ≡ whole)
   read-so-far k = go (forecastAfter k (flying start) .over) refl

@@ -12,7 +12,7 @@ use lib.Seq.{drop-drop, getD-drop, drop-append-le, take-append-le}
 use borrow.Author.Tests.{leb-true, le-leb, eq-eqb, ne-eqb}
 use Rattle.lines.specs.Put.{over}
 use Rattle.lines.specs.Read.{areDigits, sixteenFrom, isHexAt, readHex}
-use Rattle.lines.specs.Nine.{beginsWithLine, areLines, numbersOf, ended, isNine, readNine}
+use Rattle.lines.specs.Nine.{beginsWithLine, areLines, patternsOf, ended, isNine, readNine}
 
 -- ---- the length
 pub other-length : (n : ℕ) (text : List ℕ) → (length text ≡ 17 * n → ⊥) → areLines n text ≡ false
@@ -30,7 +30,7 @@ pub not-nine : (text : List ℕ) → isNine text ≡ false → readNine text ≡
 unfolding readNine
 not-nine text e = rw e refl
 
-pub is-nine : (text : List ℕ) → isNine text ≡ true → readNine text ≡ record { ok = true; numbers = numbersOf 9 (ended text) }
+pub is-nine : (text : List ℕ) → isNine text ≡ true → readNine text ≡ record { ok = true; numbers = patternsOf 9 (ended text) }
 unfolding readNine
 is-nine text e = rw e refl
 
@@ -107,9 +107,9 @@ module _ (text : List ℕ) (least : 152 ≤ length text) (most : length text ≤
     next-lines e d = lines-are ∙ rw (e, d) refl
 
     pub next-number : isHexAt (17 * i) text ≡ true → (l : List ℕ)
-        → over (i + 1) (numbersOf (9 - (i + 1)) (drop (17 * (i + 1)) (ended text))) (set l i (readHex text (17 * i) .value))
-        ≡ over i (numbersOf (9 - i) (drop (17 * i) (ended text))) l
-    unfolding over numbersOf readHex
+        → over (i + 1) (patternsOf (9 - (i + 1)) (drop (17 * (i + 1)) (ended text))) (set l i (readHex text (17 * i) .value))
+        ≡ over i (patternsOf (9 - i) (drop (17 * i) (ended text))) l
+    unfolding over patternsOf readHex
     next-number e l =
         let s : 9 - i ≡ suc (9 - (i + 1)) = omega arith in
         let o : i + 1 ≡ suc i = omega arith in
@@ -120,8 +120,8 @@ pub first-lines : (text : List ℕ) → isNine text ≡ areLines (9 - 0) (drop (
 unfolding isNine
 first-lines text = refl
 
-pub first-numbers : (text : List ℕ) → over 0 (numbersOf (9 - 0) (drop (17 * 0) (ended text))) (replicate 9 0) ≡ numbersOf 9 (ended text)
-unfolding over numbersOf
+pub first-numbers : (text : List ℕ) → over 0 (patternsOf (9 - 0) (drop (17 * 0) (ended text))) (replicate 9 0) ≡ patternsOf 9 (ended text)
+unfolding over patternsOf
 first-numbers text = refl
 
 module _ (text : List ℕ) (least : 152 ≤ length text) (most : length text ≤ 153) (i : ℕ) (e : i ≡ 9) where
@@ -131,6 +131,6 @@ module _ (text : List ℕ) (least : 152 ≤ length text) (most : length text ≤
       let z : length (drop 153 (ended text)) ≡ 0 = omega (arith, length-drop 153 (ended text), length-ended text least most) in
       rw (e, z) refl
 
-  pub all-numbers : (l : List ℕ) → l ≡ over i (numbersOf (9 - i) (drop (17 * i) (ended text))) l
-  unfolding over numbersOf
+  pub all-numbers : (l : List ℕ) → l ≡ over i (patternsOf (9 - i) (drop (17 * i) (ended text))) l
+  unfolding over patternsOf
   all-numbers l = rw e refl

@@ -17,9 +17,9 @@ areLines zero text = eqb (length text) 0
 areLines (suc n) text = beginsWithLine text && areLines n (drop 17 text)
 
 -- the numbers of n lines
-unfoldable pub numbersOf : ℕ → List ℕ → List ℕ
-numbersOf zero text = []
-numbersOf (suc n) text = valueOf (take 16 text) ∷ numbersOf n (drop 17 text)
+unfoldable pub patternsOf : ℕ → List ℕ → List ℕ
+patternsOf zero text = []
+patternsOf (suc n) text = valueOf (take 16 text) ∷ patternsOf n (drop 17 text)
 
 -- a text that is one byte short of nine lines is read as if a newline ended it
 unfoldable pub ended : List ℕ → List ℕ
@@ -30,4 +30,4 @@ isNine text = areLines 9 (ended text)
 
 -- whether a text is an input, and its nine numbers; all 0 where it is none
 unfoldable pub readNine : List ℕ → Nine
-readNine text = record { ok = isNine text; numbers = cond (isNine text) (numbersOf 9 (ended text)) (replicate 9 0) }
+readNine text = record { ok = isNine text; numbers = cond (isNine text) (patternsOf 9 (ended text)) (replicate 9 0) }

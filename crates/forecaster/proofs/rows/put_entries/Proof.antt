@@ -35,12 +35,13 @@ loop-again c =
     let pre = at .before .before .before .pre in
     let less = c .before .before .before .before .loop-test .taken in
     let inv = at .loop .inv in
-    let fits : at .loop .at + 191 ≤ length (at .loop .out) = omega (arith, inv .1, inv .2, pre .1, pre .3, less) in
-    (omega arith,
-    omega (arith, put .0, more-most (args .count) (args .from) (args .room .now) (pre .2) (at .loop .i) (at .loop .at) (at .loop .out) less fits, inv .1),
-    ap (λ (l : List ℕ). length l) (put .1) ∙ more-same (args .count) (args .from) (args .room .now) (pre .2) (at .loop .i) (at .loop .at) (at .loop .out) less fits ∙ inv .2,
-    rw (put .0, put .1) (more-put (args .count) (args .from) (args .room .now) (pre .2) (at .loop .i) (at .loop .at) (at .loop .out) less fits ∙ inv .3),
-    rw (put .0) (more-length (args .count) (args .from) (args .room .now) (pre .2) (at .loop .i) (at .loop .at) (at .loop .out) less fits ∙ inv .4))
+    let fits : at .loop .at + 191 ≤ length (at .loop .out) = omega (arith, inv .1, inv .2, pre .1, pre .3, less) in (
+      omega arith,
+      omega (arith, put .0, more-most (args .count) (args .from) (args .room .now) (pre .2) (at .loop .i) (at .loop .at) (at .loop .out) less fits, inv .1),
+      ap (λ (l : List ℕ). length l) (put .1) ∙ more-same (args .count) (args .from) (args .room .now) (pre .2) (at .loop .i) (at .loop .at) (at .loop .out) less fits ∙ inv .2,
+      rw (put .0, put .1) (more-put (args .count) (args .from) (args .room .now) (pre .2) (at .loop .i) (at .loop .at) (at .loop .out) less fits ∙ inv .3),
+      rw (put .0) (more-length (args .count) (args .from) (args .room .now) (pre .2) (at .loop .i) (at .loop .at) (at .loop .out) less fits ∙ inv .4),
+    )
 
 same-length : tie.Need-same-length Inv-loop μ-loop
 same-length c = c .before .loop .inv .2

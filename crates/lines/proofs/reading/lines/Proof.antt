@@ -10,7 +10,7 @@ use borrow.Author.Tests.{not-true, not-false}
 use Rattle.lines.specs.Put.{over}
 use Rattle.lines.specs.declared.Sixteen.{Sixteen}
 use Rattle.lines.specs.Read.{isHexAt, readHex}
-use Rattle.lines.specs.Nine.{areLines, numbersOf, ended, isNine}
+use Rattle.lines.specs.Nine.{areLines, patternsOf, ended, isNine}
 use Rattle.lines.proofs.Nines.{not-nine, is-nine, no-digits, no-end, next-lines, next-number, first-lines, first-numbers, no-line-left, all-numbers}
 use Rattle.lines.proofs.reading.lines.Statement.{statement}
 use Rattle.lines.proofs.reading.lines.Tie as tie
@@ -25,7 +25,7 @@ Inv-loop text numbers₀ i₀ numbers i =
     (i ≤ 9)
     × (length numbers ≡ 9)
     × (isNine text ≡ areLines (9 - i) (drop (17 * i) (ended text)))
-    × (over i (numbersOf (9 - i) (drop (17 * i) (ended text))) numbers ≡ numbersOf 9 (ended text))
+    × (over i (patternsOf (9 - i) (drop (17 * i) (ended text))) numbers ≡ patternsOf 9 (ended text))
 
 abbrev μ-loop : tie.MeasureT-loop
 μ-loop text numbers₀ i₀ numbers i = 9 - i
@@ -66,7 +66,7 @@ loop-again c =
     let h : i < 9 = omega arith in
     let d = told text (17 * i) (word .sixteen .result) (word .sixteen .ensures) ∙ not-false _ (end .before .if1 .left) in
     let e = sym (end .is-end .ensures) ∙ not-false _ (c .if2 .left) in
-    let put : Sixteen → List ℕ = λ (s : Sixteen). over (i + 1) (numbersOf (9 - (i + 1)) (drop (17 * (i + 1)) (ended text))) (set (at .loop .numbers) i (s .value)) in (
+    let put : Sixteen → List ℕ = λ (s : Sixteen). over (i + 1) (patternsOf (9 - (i + 1)) (drop (17 * (i + 1)) (ended text))) (set (at .loop .numbers) i (s .value)) in (
       search needs,
       simp length-set (at .loop .inv .1),
       at .loop .inv .2 ∙ next-lines text (start .pre .0) (start .pre .1) i h d e,
