@@ -2,8 +2,9 @@
 use mathlib.Core.Path.{_≡_, refl, sym, ap, _∙_, subst}
 use Prim.Native.Nat.{ℕ, _-_, _<_}
 use native.Mathlib.Nat.{add-zero}
-use mathlib.Core.Bool.{true, false}
+use mathlib.Core.Bool.{true, false, _&&_}
 use mathlib.Core.List.{List}
+use lib.Dec.{ltb}
 use lib.ListN.{length}
 use lib.Ieee.{Float}
 use Rattle.refusals.specs.Numbers.{numberOf}
@@ -20,15 +21,21 @@ use Rattle.flight.specs.declared.Flight.{Flight}
 use Rattle.flight.specs.declared.parts.Parts.{Parts}
 use Rattle.flight.specs.Flight.{landed, flightBy, flightOf, Flown, flownAfter, answeredBy, isReady, flownBy}
 use Rattle.flight.specs.Parts.{partsOf, together, triedParts, steppedParts}
-use Rattle.flight.proofs.Pieces.{flown-more, flown-stops, ready-is}
+use Rattle.flight.proofs.Pieces.{flown-more, flown-stops, ready-is, going-is}
 use Rattle.flight.proofs.Once.{once-low, once-high}
 
 pub whole : (f : Flight) → together f (partsOf f) ≡ f
 unfolding together partsOf
 whole f = refl
 
-module _ (from left : ℕ) (f : Flight) (h : Parts) (numbers : List Float) (x : Pulled) (some : 0 < left)
-    (ready : isReady (f .asks) from (h .next) (length numbers) ≡ true) (pulled : x ≡ pullAt (h .question .r)) where
+module _ (from left : ℕ) (f : Flight) (h : Parts) (numbers : List Float) (x : Pulled)
+    (going : ltb 0 left && isReady (f .asks) from (h .next) (length numbers) ≡ true) (pulled : x ≡ pullAt (h .question .r)) where
+  some : 0 < left
+  some = going-is left (f .asks) from (h .next) (length numbers) going .0
+
+  ready : isReady (f .asks) from (h .next) (length numbers) ≡ true
+  ready = going-is left (f .asks) from (h .next) (length numbers) going .1
+
   abbrev Turned : Flight → List Float → Type 0
   Turned g out = flownBy left from (together f h) numbers ≡ flownBy (left - 1) from g out
 

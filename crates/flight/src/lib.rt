@@ -10,7 +10,9 @@ use run::Run;
 use run::samples;
 use triple::Triple;
 ghost use mathlib.Core.Path.{_≡_};
+ghost use mathlib.Core.Bool.{_&&_};
 ghost use Prim.Native.Nat.{_<_};
+ghost use lib.Dec.{ltb};
 ghost use Rattle.flight.specs.Flight.{beyond, landed, flightOf, takenOff, answeredBy, isReady, flownOn};
 
 mod parts;
@@ -85,9 +87,12 @@ pub fn take_off(settings: Settings, t0: f64, tf: f64, r0: Triple, v0: Triple) ->
 }
 
 // Whether a further question is answered in this piece: the room that begins at `from` must have place for the next five samples.
-fn is_ready(asks: bool, from: u64, next: u64, room: usize) -> bool
-    ensures { λ b. ⌜ b ≡ isReady asks from next room ⌝ }
+fn is_ready(left: u64, asks: bool, from: u64, next: u64, room: usize) -> bool
+    ensures { λ b. ⌜ b ≡ ltb 0 left && isReady asks from next room ⌝ }
 {
+    if left == 0 {
+        return false;
+    }
     if !asks {
         return false;
     }
@@ -117,19 +122,19 @@ pub fn fly_on(flight: Flight, out: &mut [f64]) -> Flight
     let mut f = flight;
     let mut parts = parts::parts_of(f);
     let mut left = PIECE;
-    while left > 0 {
-        if !is_ready(f.asks, from, parts.next, out.len()) {
-            return parts::together(f, parts);
-        }
+    while is_ready(left, f.asks, from, parts.next, out.len()) {
         left -= 1;
         let pulled = force::pull_at(parts.question.r);
         if pulled.low {
             return land(parts::together(f, parts).run, parts.next, TOO_LOW);
         }
-        let look = parts::look_by(
-            parts,
+        let look = fastpath::look_at(
+            parts.mark,
             f.run.body.plan,
+            parts.track,
+            parts.trial,
             f.run.body.startup_iters,
+            parts.question.number,
             pulled.a,
             from,
             out.len(),

@@ -2,7 +2,6 @@
 // The parts of a flight that an answer of the fast path changes, kept beside the rest, which such an answer neither reads whole nor copies.
 ghost use mathlib.Core.Path.{_≡_};
 ghost use Prim.Native.Nat.{_<_};
-ghost use Rattle.fastpath.specs.Looking.{lookedAt};
 ghost use Rattle.fastpath.specs.Moving.{askedAgain, madeStep, keptStep};
 ghost use Rattle.flight.specs.Flight.{beyond};
 ghost use Rattle.flight.specs.Parts.{partsOf, together, triedParts, steppedParts};
@@ -71,23 +70,6 @@ pub fn together(flight: Flight, parts: Parts) -> Flight
         next: parts.next,
         ending: parts.ending,
     }
-}
-
-// What the answer `a` to the open question leads to, with room for so many numbers of samples from sample `from` on.
-pub fn look_by(parts: Parts, plan: Plan, passes: u64, a: Triple, from: u64, room: usize) -> Look
-    ensures { λ l. ⌜ l ≡ lookedAt (parts .mark) plan (parts .track) (parts .trial) passes (parts .question .number) a from room ⌝ }
-{
-    fastpath::look_at(
-        parts.mark,
-        plan,
-        parts.track,
-        parts.trial,
-        passes,
-        parts.question.number,
-        a,
-        from,
-        room,
-    )
 }
 
 // The open step is tried once more.
