@@ -17,7 +17,7 @@ use Rattle.refusals.specs.declared.Told.the-variants.{Written, Refused}
 use Rattle.intervals.specs.Table.{countOf}
 use Rattle.intervals.specs.Intervals.{endsOf, intervalOf, walkedTo}
 use Rattle.dense.specs.Interpolation.{betweenNumbers, putFrom, isMisshapen, anyOutside, judged, valueAt, written, writtenAll, unless, interpolated, batched}
-use Rattle.sentences.specs.Sentences.{PastUntouched, PastUntouchedOne, RoomForAll}
+use Rattle.sentences.specs.Sentences.{PastUntouched, PastUntouchedOne, PlaceForAll}
 
 other : (l : List Float) (i : ℕ) (x : Float) (p : ℕ) → i < p → getD (set l i x) p nan ≡ getD l p nan
 other l i x p h = getD-set-other l i p x nan (λ e. omega arith)
@@ -73,9 +73,9 @@ second : (a b : Bool) → (a || b) ≡ false → b ≡ false
 second false b e = e
 second true b e = let z : _≡_ {A = ℕ} 0 1 = cc in absurd (omega arith)
 
-pub room-for-all : RoomForAll
+pub place-for-all : PlaceForAll
 unfolding judged isMisshapen
-room-for-all times samples out e j h =
+place-for-all times samples out e j h =
     let shaped = well-shaped (isMisshapen times samples out) (ltb (countOf samples) 2) (anyOutside (endsOf samples) times) e in
     let fits : betweenNumbers * length times ≤ length out = ltb-false (length out) (betweenNumbers * length times) (second (not (eqb (length samples % 10) 0)) _ shaped) in
     omega arith

@@ -27,8 +27,8 @@ abbrev pub PastUntouchedOne : Type 0
 PastUntouchedOne = (t : Float) (samples out : List Float) (p : ℕ) → betweenNumbers ≤ p → getD (interpolated t samples out) p nan ≡ getD out p nan
 
 -- Where a call writes, every time has its place, so that `put` leaves out none (Places)
-abbrev pub RoomForAll : Type 0
-RoomForAll =
+abbrev pub PlaceForAll : Type 0
+PlaceForAll =
     (times samples out : List Float) → judged times samples out ≡ Written → (j : ℕ) → j < length times → j < length out / betweenNumbers
 
 -- "A NaN time is not refused and gives NaN" (Nans)
