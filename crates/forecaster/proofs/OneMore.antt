@@ -10,7 +10,6 @@ use mathlib.Core.List.{append-nil}
 use lib.Seq.{drop-cons}
 use lib.Ieee.{Float, nan}
 use borrow.Author.Tests.{le-leb}
-use Rattle.triple.specs.declared.Sample.{Sample}
 use Rattle.intervals.specs.Table.{ten, sampleOf}
 use Rattle.intervals.proofs.Reading.{sample-here}
 use Rattle.lines.specs.Put.{over, put, after as afterBytes}
@@ -18,7 +17,6 @@ use Rattle.lines.specs.Digits.{places}
 use Rattle.lines.specs.Lines.{sampleLine, refusalLine, tenFrom, lineFits, putLine, afterLine}
 use Rattle.lines.proofs.Over.{over-append, length-over, put-all, after-all}
 use Rattle.lines.proofs.Parts.{length-sample, length-refusal}
-use Rattle.flight.specs.Story.{Entry}
 use Rattle.flight.specs.Told.{readFrom}
 use Rattle.forecaster.specs.Printed.{tenOf, entryLines}
 

@@ -1,10 +1,9 @@
 -- The pieces make the whole.
 use mathlib.Core.Path.{_≡_, refl, sym, ap, ap₂, _∙_, subst}
-use Prim.Native.Nat.{ℕ, zero, suc, _+_, _-_, _*_, _≤_}
+use Prim.Native.Nat.{ℕ, zero, suc, _+_, _-_, _≤_}
 use native.Mathlib.Omega.{arith}
-use mathlib.Core.Bool.{Bool, true, false, not, _&&_, cond, false≢true}
+use mathlib.Core.Bool.{Bool, true, false, not, cond, false≢true}
 use mathlib.Core.List.{List, [], _∷_, _++_, append-assoc, append-nil}
-use lib.Dec.{leb}
 use lib.ListN.{length, replicate, length-replicate}
 use lib.Ieee.{Float}
 use Rattle.triple.specs.declared.Triple.{Triple}
@@ -15,7 +14,7 @@ use Rattle.lines.specs.Lines.{sampleLine, refusalLine}
 use Rattle.lines.specs.Nine.{readNine}
 use Rattle.flight.specs.declared.Flight.{Flight}
 use Rattle.flight.specs.Flight.{Flown, takenOff, isReady, flownOn, piece}
-use Rattle.flight.specs.Story.{Entry, Story, before, storyOf}
+use Rattle.flight.specs.Story.{Entry, storyOf}
 use Rattle.flight.specs.Told.{readFrom, handedOut, flownThrough, allHandedOut}
 use Rattle.flight.specs.Ends.{Fifty}
 use Rattle.flight.proofs.Pieces.{flown-stops}

@@ -4,12 +4,11 @@ use Prim.Native.Nat.{ℕ, _*_, _+_}
 use mathlib.Core.Bool.{Bool, true, false, not, cond}
 use mathlib.Core.List.{List, [], _++_}
 use lib.Dec.{leb}
-use lib.ListN.{length, replicate}
+use lib.ListN.{replicate}
 use lib.Ieee.{Float}
 use Rattle.triple.specs.Arithmetic.{nought}
 use Rattle.refusals.specs.Numbers.{numberOf}
 use Rattle.refusals.specs.declared.Refusal.the-variants.{InputLine}
-use Rattle.lines.specs.Put.{over as putOver}
 use Rattle.lines.specs.Lines.{refusalLine}
 use Rattle.lines.specs.Nine.{readNine}
 use Rattle.flight.specs.declared.Flight.{Flight}

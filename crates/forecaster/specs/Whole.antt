@@ -1,6 +1,6 @@
 -- The pieces, one after the other, are all that is printed; and there are not endlessly many. `prints-all` in proofs/Whole.antt.
 use mathlib.Core.Path.{_≡_}
-use Prim.Native.Nat.{ℕ, zero, suc, _≤_, _<_}
+use Prim.Native.Nat.{ℕ, zero, suc, _≤_}
 use mathlib.Core.Bool.{true}
 use mathlib.Core.List.{List, [], _++_}
 use Rattle.run.specs.Limits.{ample}

@@ -7,7 +7,7 @@ use triple::Triple;
 ghost use mathlib.Core.Path.{_≡_};
 ghost use lib.ListN.{length};
 ghost use Rattle.lines.specs.Put.{over as putOver};
-ghost use Rattle.forecaster.specs.Printed.{tripleAt, settingsWith};
+ghost use Rattle.forecaster.specs.Printed.{settingsWith};
 ghost use Rattle.forecaster.specs.Pieces.{begunWith, begun, pieceIn};
 
 mod rows;

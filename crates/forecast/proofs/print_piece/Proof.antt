@@ -1,6 +1,5 @@
 -- `print_piece` is safe.
 use mathlib.Core.Path.{sym}
-use native.Mathlib.Omega.{arith}
 use lib.Seq.{length-take-le}
 use borrow.Author.Needs.{needs}
 use Rattle.forecast.proofs.print_piece.Statement.{statement}

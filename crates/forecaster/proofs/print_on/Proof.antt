@@ -1,17 +1,15 @@
 -- `print_on` prints what `pieceIn` says.
-use mathlib.Core.Path.{_≡_, refl, sym, ap, _∙_}
-use Prim.Native.Nat.{ℕ, _+_, _-_, _*_, _≤_, _<_}
+use mathlib.Core.Path.{refl}
+use Prim.Native.Nat.{_-_}
 use native.Mathlib.Omega.{arith}
-use mathlib.Core.List.{List, []}
-use lib.ListN.{length, length-replicate}
+use mathlib.Core.List.{[]}
+use lib.ListN.{length-replicate}
 use lib.Ieee.{Float, ofBits}
 use borrow.Author.Needs.{needs}
 use borrow.Author.Tests.{not-true, not-false, lt-leb, le-leb}
 use Rattle.triple.specs.Arithmetic.{nought}
 use Rattle.lines.specs.Put.{over}
-use Rattle.flight.specs.declared.Flight.{Flight}
-use Rattle.flight.specs.Told.{handedOut}
-use Rattle.forecaster.specs.Pieces.{blankRoom, longestPiece, flownPiece, pieceOf, pieceIn}
+use Rattle.forecaster.specs.Pieces.{longestPiece, pieceOf, pieceIn}
 use Rattle.forecaster.proofs.OneMore.{refusal-more}
 use Rattle.forecaster.proofs.Fitting.{told-forth, told-fits}
 use Rattle.forecaster.proofs.APiece.{told-piece}

@@ -1,13 +1,6 @@
 -- `put_told` prints the samples, and behind them the ending.
-use mathlib.Core.Path.{_≡_, refl, sym, ap, _∙_}
-use Prim.Native.Nat.{ℕ, _+_, _≤_}
-use native.Mathlib.Omega.{arith}
-use mathlib.Core.List.{List}
 use borrow.Author.Needs.{needs}
 use borrow.Author.Tests.{eq-eqb, ne-eqb}
-use lib.ListN.{length}
-use Rattle.lines.specs.Put.{over}
-use Rattle.lines.proofs.Over.{length-over}
 use Rattle.forecaster.specs.Printed.{endingLine}
 use Rattle.forecaster.proofs.OneMore.{nothing-more, refusal-more}
 use Rattle.forecaster.proofs.rows.put_told.Statement.{statement}
