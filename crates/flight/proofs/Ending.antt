@@ -26,9 +26,9 @@ use Rattle.flight.specs.declared.Flight.{Flight}
 use Rattle.flight.specs.Flight.{takenOff, beyond, isReady, flownOn}
 use Rattle.flight.specs.Story.{Story, storyOf}
 use Rattle.flight.specs.Told.{flownThrough}
-use Rattle.flight.specs.Ends.{Fifty, AlwaysEnds}
+use Rattle.flight.specs.Ends.{Fifty, EndsTold, AlwaysEnds}
 use Rattle.flight.proofs.Tales.{Open, Tells, Goes}
-use Rattle.flight.proofs.Telling.{turn, piece-goes, call-goes, claims, plan, start-tells}
+use Rattle.flight.proofs.Telling.{turn, piece-goes, call-goes, claims, plan, start-tells, tells-the-story}
 
 -- ---- the answers that a line counts
 abbrev evalsIn : Line → ℕ
@@ -69,8 +69,8 @@ module _ (p : Plan) (c : Claims) where
       let e : m + 1 + length rooms ≡ m + length (numbers ∷ rooms) = omega arith in
       (y .0, subst (λ (k : ℕ). Tells p c k (flownThrough (flownOn f numbers .flight) rooms) (y .0)) e (y .1))
 
-pub always-ends : (s : Settings) (t0 tf : Float) (r0 v0 : Triple) → AlwaysEnds s t0 tf r0 v0
-always-ends s t0 tf r0 v0 rooms h k = go (calls-on p c rooms 0 f (storyOf s t0 tf r0 v0) h (start-tells s t0 tf r0 v0) .1)
+pub always-ends : AlwaysEnds
+always-ends s t0 tf r0 v0 rooms h k = record { over = done; told = tells-the-story s t0 tf r0 v0 rooms .all done }
   where
     p : Plan
     p = plan s t0 tf r0 v0
@@ -84,3 +84,6 @@ always-ends s t0 tf r0 v0 rooms h k = go (calls-on p c rooms 0 f (storyOf s t0 t
     go : {left : Story} → Tells p c (0 + length rooms) (flownThrough f rooms) left → flownThrough f rooms .asks ≡ false
     go (inl o) = let e = few p c o in let y = o .since in absurd (omega arith)
     go (inr o) = o .asks-none
+
+    done : flownThrough f rooms .asks ≡ false
+    done = go (calls-on p c rooms 0 f (storyOf s t0 tf r0 v0) h (start-tells s t0 tf r0 v0) .1)

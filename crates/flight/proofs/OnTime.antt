@@ -6,12 +6,11 @@ use native.Mathlib.Nat.{add-zero}
 use native.Mathlib.Omega.{arith}
 use mathlib.Core.Bool.{Bool, true, false, cond}
 use mathlib.Core.List.{List, [], _∷_, _++_}
-use lib.IntN.{ℤ, natAbs}
+use lib.IntN.{natAbs}
 use lib.ListN.{length, length-append}
 use lib.Ieee.{Float}
 use Rattle.triple.specs.declared.Triple.{Triple}
 use Rattle.triple.specs.declared.Sample.{Sample}
-use Rattle.plan.specs.declared.Settings.{Settings}
 use Rattle.plan.specs.declared.Plan.{Plan}
 use Rattle.plan.specs.declared.Verdict.{Verdict}
 use Rattle.plan.specs.declared.Verdict.the-variants.{Fine, Refuse}
@@ -23,7 +22,7 @@ use Rattle.point_mass.specs.Force.{distance, isTooLow, pull}
 use Rattle.whole.specs.Whole.{IsWhole}
 use Rattle.counting.specs.Paths.{Claims, Each, Always}
 use Rattle.counting.specs.Clockwork.{fateOf, stepsOf, sampleTime, clockwork}
-use Rattle.counting.specs.Counting.{spanOf, stepsFor, whenFor, OnTime, onTime}
+use Rattle.counting.specs.Counting.{spanOf, stepsFor, whenFor, onTime}
 use Rattle.counting.proofs.Marching.{by-the-clock}
 use Rattle.counting.proofs.OnTime.{ends-on-time}
 use Rattle.flight.specs.Story.{Entry, Story, numbered, nothingMore, before, story, storyBy, storyOf}

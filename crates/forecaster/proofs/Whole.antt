@@ -189,7 +189,7 @@ module _ (s : Settings) (t0 tf : Float) (r0 v0 : Triple) where
 
   read-ends : (k : ℕ) → ample ≤ k → forecastAfter k (flying start) .over ≡ true
   read-ends zero h = absurd (omega arith)
-  read-ends (suc k) h = over-after k start ∙ ap not (always-ends s t0 tf r0 v0 (rooms (suc k)) (fifty (suc k)) (omega (arith, length-replicate {A = List Float} (suc k) blankRoom)))
+  read-ends (suc k) h = over-after k start ∙ ap not (always-ends s t0 tf r0 v0 (rooms (suc k)) (fifty (suc k)) (omega (arith, length-replicate {A = List Float} (suc k) blankRoom)) .over)
 
 -- ---- and one that cannot
 abbrev unread : Flight → Forecast
