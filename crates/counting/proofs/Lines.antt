@@ -24,7 +24,7 @@ use Rattle.rules.specs.Asked.{due}
 use Rattle.rules.specs.Walk.{Said, question, finished, refused, Call, Result, open-at, over, Stop, afterStoring, settle, called, walk}
 use Rattle.counting.specs.Paths.{Claims, Each, Always}
 use Rattle.counting.specs.Runs.{Adds, Over, Tells, Going, openAfter, answersIn, IsFinished, Finishes}
-use Rattle.counting.specs.Rooms.{Holds, HasRoom, Roomy}
+use Rattle.counting.specs.Rooms.{Holds, RoomAt, Roomy}
 
 -- ---- what no end exceeds is exceeded nowhere on the way
 pub record Limits (c : Claims) (E N : ℕ) : Type 0 where
@@ -158,7 +158,7 @@ module _ (c : Claims) (E N : ℕ) (l : Limits c E N) where
           (added, (same, refl, subst (λ (m : ℕ). c .finish (e + 1) m (a .0) (a .2) (a .3)) (x .counts) (a .5), over-is cs))
 
   pub going : (i e n : ℕ) (q : Point) (k : Triple → Course) (cs : List Call) → ((a : Triple) → Always c (e + 1) n (k a)) → Roomy (open-at i e q k) cs → Going c E i e n cs (walk (open-at i e q k) cs)
-  unfolding Going walk called Roomy HasRoom Tells
+  unfolding Going walk called Roomy RoomAt Tells
   going i e n q k [] h r = tt
   going i e n q k (x ∷ cs) h r =
       go (eqb i (x .number)) (eqb→eq i (x .number)) (λ (f : x .number ≡ i). eq→eqb (sym f))

@@ -21,14 +21,14 @@ Holds room (ends t y steps startups) = Unit {0}
 Holds room exceeds = Unit {0}
 
 -- a call that answers the open question has room for the samples due at it
-unfoldable pub HasRoom : Line → Call → Type 0
-HasRoom (open-at n e q k) c = eqb n (c .number) ≡ true → Holds (c .out) (k (c .a))
-HasRoom over c = Unit {0}
+unfoldable pub RoomAt : Line → Call → Type 0
+RoomAt (open-at n e q k) c = eqb n (c .number) ≡ true → Holds (c .out) (k (c .a))
+RoomAt over c = Unit {0}
 
 -- so has each of the calls
 unfoldable pub Roomy : Line → List Call → Type 0
 Roomy l [] = Unit {0}
-Roomy l (c ∷ cs) = HasRoom l c × Roomy (called l c .line) cs
+Roomy l (c ∷ cs) = RoomAt l c × Roomy (called l c .line) cs
 
 -- ---- one room for all: every call's room has place for samples 0 to n - 1
 unfoldable pub Ample : (n : ℕ) → List Call → Type 0

@@ -55,7 +55,7 @@ once from f numbers = go (pullAt (f .question .r) .low)
         }
 
 -- by a piece
-pub record Within (from : ℕ) (f : Flight) (numbers : List Float) (g : Flown) : Type 0 where
+pub record StaysWithin (from : ℕ) (f : Flight) (numbers : List Float) (g : Flown) : Type 0 where
   pub forth : f .next ≤ g .flight .next
   pub placed : 10 * (g .flight .next - from) ≤ length numbers
   pub near : f .next < g .flight .next → g .flight .next ≤ beyond + 5
@@ -66,7 +66,7 @@ unfolding isPlaced
 five-placed from n room h = let b = both _ _ h in (leb-true _ _ (b .0), leb-true _ _ (b .1))
 
 abbrev Goes : ℕ → Type 0
-Goes left = (from : ℕ) (f : Flight) (numbers : List Float) → from ≤ f .next → 10 * (f .next - from) ≤ length numbers → Within from f numbers (flownBy left from f numbers)
+Goes left = (from : ℕ) (f : Flight) (numbers : List Float) → from ≤ f .next → 10 * (f .next - from) ≤ length numbers → StaysWithin from f numbers (flownBy left from f numbers)
 
 nearer : (m n : ℕ) → m ≤ beyond + 5 → m ≤ n → (m < n → n ≤ beyond + 5) → n ≤ beyond + 5
 nearer m n h k f = go (ltb m n) refl
@@ -76,7 +76,7 @@ nearer m n h k f = go (ltb m n) refl
     go false e = let z : n ≤ m = ltb-false m n e in omega arith
 
 one-more : (left : ℕ) → Goes left → (from : ℕ) (f : Flight) (numbers : List Float) → isReady (f .asks) from (f .next) (length numbers) ≡ true
-    → Within from f numbers (flownBy left from (answeredOnce from f numbers .flight) (answeredOnce from f numbers .out))
+    → StaysWithin from f numbers (flownBy left from (answeredOnce from f numbers .flight) (answeredOnce from f numbers .out))
 one-more left rest from f numbers e =
     let r = ready-is (f .asks) from (f .next) (length numbers) e in
     let p = five-placed from (f .next) (length numbers) (r .1) in
@@ -105,12 +105,12 @@ within (suc left) from f numbers h k = go (isReady (f .asks) from (f .next) (len
     on : Flown
     on = flownBy left from (answeredOnce from f numbers .flight) (answeredOnce from f numbers .out)
 
-    go : (d : Bool) → isReady (f .asks) from (f .next) (length numbers) ≡ d → (isReady (f .asks) from (f .next) (length numbers) ≡ true → Within from f numbers on)
-        → Within from f numbers (cond d on (record { flight = f; out = numbers }))
+    go : (d : Bool) → isReady (f .asks) from (f .next) (length numbers) ≡ d → (isReady (f .asks) from (f .next) (length numbers) ≡ true → StaysWithin from f numbers on)
+        → StaysWithin from f numbers (cond d on (record { flight = f; out = numbers }))
     go true e w = w e
     go false e w = record { forth = omega arith; placed = k; near = λ z. omega arith; same = refl }
 
-piece-fits : (f : Flight) (numbers : List Float) → Within (f .next) f numbers (flownOn f numbers)
+piece-fits : (f : Flight) (numbers : List Float) → StaysWithin (f .next) f numbers (flownOn f numbers)
 unfolding flownOn
 piece-fits f numbers = within piece (f .next) f numbers (omega arith) (omega arith)
 
