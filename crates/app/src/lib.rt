@@ -1,6 +1,7 @@
 // SPDX-License-Identifier: MIT OR Apache-2.0
 // What an app links: the whole run and the samples between, for C and for Rust. Thin over the proved functions, and proved themselves.
 // No function here depends on its caller's care beyond what a pointer needs; include/gauss_jackson.h says that, and the layouts.
+#![tactic(auto)]
 ghost use Rattle.std.specs.Prelude.{◌≡◌, [], ◌∷◌};
 ghost use Rattle.plan.specs.Plan.{default_settings};
 ghost use Rattle.gauss_jackson.specs.Answers.{started, answered, open_question};
@@ -24,7 +25,7 @@ mod replies;
 // An outcome in plain numbers. `kind` is 0 for a question, 1 for the finished state, 2 for a refusal; what a kind has no use for is zero.
 // `stored` is how many samples the call stored, whatever its kind.
 #[repr(C)]
-#[derive(Drop)]
+#[derive(Clone, Copy)]
 pub struct Reply {
     pub t: f64,
     pub r: Triple,
@@ -40,7 +41,7 @@ pub struct Reply {
 
 // The run to go on with, and the reply.
 #[repr(C)]
-#[derive(Drop)]
+#[derive(Clone, Copy)]
 pub struct Replied {
     pub run: Run,
     pub reply: Reply,
@@ -48,7 +49,7 @@ pub struct Replied {
 
 // A forecast in plain numbers: `refusal` is 0 and the cost stands, or it is the refusal's number and the cost is all zero.
 #[repr(C)]
-#[derive(Drop)]
+#[derive(Clone, Copy)]
 pub struct CostReply {
     pub cost: Cost,
     pub refusal: u32,
@@ -56,7 +57,7 @@ pub struct CostReply {
 
 // What a start in the whole-second profile tells: as a plain start, and the cost beside it.
 #[repr(C)]
-#[derive(Drop)]
+#[derive(Clone, Copy)]
 pub struct WholeReply {
     pub reply: Reply,
     pub cost: Cost,
@@ -64,14 +65,14 @@ pub struct WholeReply {
 
 // The run to go on with, and what its start tells.
 #[repr(C)]
-#[derive(Drop)]
+#[derive(Clone, Copy)]
 pub struct WholeReplied {
     pub run: Run,
     pub told: WholeReply,
 }
 
 // What changes where the open step is tried once more, and the reply.
-#[derive(Drop)]
+#[derive(Clone, Copy)]
 struct TriedReply {
     mark: Mark,
     trial: Trial,
@@ -79,7 +80,7 @@ struct TriedReply {
 }
 
 // What changes where a step is made and the next one is open, and the reply.
-#[derive(Drop)]
+#[derive(Clone, Copy)]
 struct SteppedReply {
     mark: Mark,
     a: [Triple; 9],

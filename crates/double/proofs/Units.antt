@@ -24,10 +24,15 @@ abbrev pub Units : Float → ℕ → Type 0
 Units x n = HasValue x false n (2 ^ 1074)
 
 pub own_units : (x : Float) → Double x → NotNegative x → Units x (units_in x)
+own_units nan F N = elim N [ ]
+own_units (inf _) F N = elim N [ ]
+own_units (fin true m e) F N = elim N [ ]
 own_units (fin false m e) F N = (refl, units_exact false m e F)
 
 pub units_are : (x : Float) (n : ℕ) → Units x n → NotNegative x × (units_in x ≡ n)
 unfolding in_units
+units_are nan n h = elim h [ ]
+units_are (inf _) n h = elim h [ ]
 units_are (fin true m e) n h = absurd (true≢false h.0)
 units_are (fin false m e) n h = (tt, ap (λ (z : ℕ). z / down e) h.1 ∙ mul-div_cancel n (down_pos e))
 
@@ -47,6 +52,10 @@ same_value s x y n F G h k = sym (own_value s x n F h) ∙ own_value s y n G k
 -- ---- arithmetic
 pub mul_units : (x y : Float) (a b : ℕ) → Units x a → Units y b → mul binary64 x y ≡ round binary64 false (a * b) (2 ^ 1074 * 2 ^ 1074)
 unfolding mul
+mul_units nan y a b h k = elim h [ ]
+mul_units (inf _) y a b h k = elim h [ ]
+mul_units (fin false m e) nan a b h k = elim k [ ]
+mul_units (fin false m e) (inf _) a b h k = elim k [ ]
 mul_units (fin true m e) y a b h k = absurd (true≢false h.0)
 mul_units (fin false m e) (fin true n d) a b h k = absurd (true≢false k.0)
 mul_units (fin false m e) (fin false n d) a b h k =
@@ -58,6 +67,10 @@ mul_units (fin false m e) (fin false n d) a b h k =
 
 pub div_units : (x y : Float) (a b : ℕ) → Units x a → Units y b → 0 < b → div binary64 x y ≡ round binary64 false a b
 unfolding div
+div_units nan y a b h k B = elim h [ ]
+div_units (inf _) y a b h k B = elim h [ ]
+div_units (fin false m e) nan a b h k B = elim k [ ]
+div_units (fin false m e) (inf _) a b h k B = elim k [ ]
 div_units (fin true m e) y a b h k B = absurd (true≢false h.0)
 div_units (fin false m e) (fin true n d) a b h k B = absurd (true≢false k.0)
 div_units (fin false m e) (fin false n d) a b h k B =
@@ -93,6 +106,10 @@ div_units (fin false m e) (fin false n d) a b h k B =
 
 pub add_units : (x y : Float) (a b : ℕ) → Units x a → Units y b → add binary64 x y ≡ round binary64 false (a + b) (2 ^ 1074)
 unfolding add sum
+add_units nan y a b h k = elim h [ ]
+add_units (inf _) y a b h k = elim h [ ]
+add_units (fin false m e) nan a b h k = elim k [ ]
+add_units (fin false m e) (inf _) a b h k = elim k [ ]
 add_units (fin true m e) y a b h k = absurd (true≢false h.0)
 add_units (fin false m e) (fin true n d) a b h k = absurd (true≢false k.0)
 add_units (fin false m e) (fin false n d) a b h k =
@@ -108,6 +125,10 @@ add_units (fin false m e) (fin false n d) a b h k =
 -- ---- order
 pub lt_units : (x y : Float) (a b : ℕ) → Units x a → Units y b → lt x y ≡ ltb a b
 unfolding lt
+lt_units nan y a b h k = elim h [ ]
+lt_units (inf _) y a b h k = elim h [ ]
+lt_units (fin false m e) nan a b h k = elim k [ ]
+lt_units (fin false m e) (inf _) a b h k = elim k [ ]
 lt_units (fin true m e) y a b h k = absurd (true≢false h.0)
 lt_units (fin false m e) (fin true n d) a b h k = absurd (true≢false k.0)
 lt_units (fin false m e) (fin false n d) a b h k = go (ltb a b) (ltb→lt a b) (nltb→le a b)
@@ -143,6 +164,8 @@ clash (fin false m e) (fin false n d) C D l k =
     not-le_of_lt (ltb-true (n * up d * down e) (m * up e * down d) k) (at_most (m * up e * down d) (n * up d * down e) l)
 
 units_clear : (x : Float) (n : ℕ) → Units x n → Clear x
+units_clear nan n h = elim h [ ]
+units_clear (inf _) n h = elim h [ ]
 units_clear (fin true m e) n h = absurd (true≢false h.0)
 units_clear (fin false m e) n h = tt
 

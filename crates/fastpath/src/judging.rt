@@ -15,7 +15,7 @@ use triple::{State, Triple};
 const AT_STEP: u8 = 6;
 
 // Where the open step ends by the newest answer, and whether it is made there.
-#[derive(Drop)]
+#[derive(Clone, Copy)]
 pub struct Reached {
     pub made: bool,
     pub state: State,

@@ -2,6 +2,7 @@
 // The way most answers go: at a step's end, with one more question there to follow. By the parts of a run that this takes, so that a run
 // which is lent is neither copied out nor put back whole. `look_at` says whether an answer goes this way; then `ask_again` or `make_step`
 // gives what changes. The theorems of `proofs/SameAnswer.antt` say that this is what `gauss_jackson::answer` does.
+#![tactic(auto)]
 ghost use Rattle.std.specs.Prelude.{◌≡◌};
 ghost use Rattle.fastpath.specs.Looking.{looked_at};
 ghost use Rattle.fastpath.specs.Moving.{asked_at, asked_again, track_by, stored_by, made_step, kept_step};
@@ -15,7 +16,7 @@ mod judging;
 
 // What an answer leads to: the open step is tried once more, or it is made and the next one is open, or neither; and then where the run
 // waits, where the step ends by this answer, and the steps made.
-#[derive(Drop)]
+#[derive(Clone, Copy)]
 pub struct Look {
     pub again: bool,
     pub on: bool,
@@ -25,7 +26,7 @@ pub struct Look {
 }
 
 // What changes in a run where the open step is tried once more, and its question.
-#[derive(Drop)]
+#[derive(Clone, Copy)]
 pub struct Tried {
     pub mark: Mark,
     pub trial: Trial,
@@ -33,7 +34,7 @@ pub struct Tried {
 }
 
 // What changes where a step is made and the next one is open, its question, and how many samples are stored.
-#[derive(Drop)]
+#[derive(Clone, Copy)]
 pub struct Stepped {
     pub mark: Mark,
     pub a: [Triple; 9],

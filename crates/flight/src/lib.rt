@@ -1,6 +1,7 @@
 // SPDX-License-Identifier: MIT OR Apache-2.0
 // A run taken to its end by the pull of a point mass (02, W-207): `take_off` starts it, and each `fly_on` answers its questions for a piece,
 // with one small room that begins at the next sample. By value, and total: what a flight tells is `specs/Story.antt`.
+#![tactic(auto)]
 ghost use Rattle.std.specs.Prelude.{◌≡◌, ◌&&◌, ◌<◌, ltb};
 ghost use Rattle.flight.specs.Flight.{beyond, landed, flight_of, taken_off, answered_by, is_ready, flown_on};
 
@@ -23,7 +24,7 @@ const TOO_LOW: u64 = 15;
 
 // A run on its way: whether a question is open, and which; the number of the next sample; and, where none is open, how it ended: 0, or the
 // refusal's number.
-#[derive(Drop)]
+#[derive(Clone, Copy)]
 pub struct Flight {
     pub run: Run,
     pub asks: bool,

@@ -12,7 +12,7 @@ use plan::Plan;
 use run::{Body, Mark, Run, Track, Trial};
 use triple::Triple;
 
-#[derive(Drop)]
+#[derive(Clone, Copy)]
 pub struct Parts {
     pub mark: Mark,
     pub a: [Triple; 9],

@@ -1,6 +1,7 @@
 // SPDX-License-Identifier: MIT OR Apache-2.0
 // What `forecast` prints (02, W-207), in pieces: the input's nine lines begin a forecast, and each `print_on` gives the bytes of a further
 // piece, so that a year needs no large memory. Total; the program around it only reads and writes.
+#![tactic(auto)]
 ghost use Rattle.std.specs.Prelude.{◌≡◌, ◌≤◌, length};
 ghost use Rattle.lines.specs.Put.{over as put_over};
 ghost use Rattle.forecaster.specs.Printed.{settings_with};
@@ -20,7 +21,7 @@ const ROOM: usize = 640;
 pub const LONGEST: usize = 12245;
 
 // A forecast on its way: whether its input could be read, whether all of it is printed, and the flight.
-#[derive(Drop)]
+#[derive(Clone, Copy)]
 pub struct Forecast {
     pub reads: bool,
     pub over: bool,
@@ -28,7 +29,7 @@ pub struct Forecast {
 }
 
 // What a piece printed: so many bytes, and the forecast to go on with.
-#[derive(Drop)]
+#[derive(Clone, Copy)]
 pub struct Printed {
     pub forecast: Forecast,
     pub count: usize,

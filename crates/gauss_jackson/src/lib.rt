@@ -2,6 +2,7 @@
 // The integration turned inside out: `start` gives a run with its first question, and each accepted `answer` gives the next
 // question, or the finished state, or a refusal. The run is plain data, goes in by value and comes back by value.
 // Every function that a caller sees is total: document 01 names the answer to anything at all.
+#![tactic(auto)]
 ghost use Rattle.std.specs.Prelude.{◌≡◌};
 ghost use Rattle.plan.specs.Plan.{default_settings};
 ghost use Rattle.run.specs.Samples.{tens, numbers_of};
@@ -21,7 +22,7 @@ mod taking;
 
 // A force's question: answer it with the acceleration there, under its number.
 #[repr(C)]
-#[derive(Drop)]
+#[derive(Clone, Copy)]
 pub struct Question {
     pub number: u16,
     pub t: f64,
@@ -31,7 +32,7 @@ pub struct Question {
 
 // The finished state. `evals` is the count of accepted answers.
 #[repr(C)]
-#[derive(Drop)]
+#[derive(Clone, Copy)]
 pub struct Solution {
     pub t: f64,
     pub r: Triple,
@@ -41,7 +42,7 @@ pub struct Solution {
     pub startup_iters: u64,
 }
 
-#[derive(Drop)]
+#[derive(Clone, Copy)]
 pub enum Outcome {
     Ask(Question),
     Done(Solution),
@@ -49,7 +50,7 @@ pub enum Outcome {
 }
 
 // What a call gives: the run to go on with, the outcome, and how many samples it stored: 0, 1 or 5.
-#[derive(Drop)]
+#[derive(Clone, Copy)]
 pub struct Answered {
     pub run: Run,
     pub outcome: Outcome,

@@ -1,5 +1,6 @@
 // SPDX-License-Identifier: MIT OR Apache-2.0
 // 01: "a run lent by the caller and moved on where it stands". Each function calls the one by value and stores the run back.
+#![tactic(auto)]
 ghost use Rattle.std.specs.Prelude.{◌≡◌};
 ghost use Rattle.gauss_jackson.specs.Answers.{started, answered};
 ghost use Rattle.profile.specs.Start.{started_whole};
@@ -45,14 +46,14 @@ pub fn start_whole_lent(
 }
 
 // What an answer tells: its outcome, and how many samples it stored.
-#[derive(Drop)]
+#[derive(Clone, Copy)]
 pub struct AnswerTold {
     pub outcome: Outcome,
     pub stored: u64,
 }
 
 // The run to go on with, and what is told.
-#[derive(Drop)]
+#[derive(Clone, Copy)]
 struct AnswerGiven {
     run: Run,
     told: AnswerTold,

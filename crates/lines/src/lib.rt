@@ -1,5 +1,6 @@
 // SPDX-License-Identifier: MIT OR Apache-2.0
 // Numbers as text: into lent bytes, and out of them. No function writes a byte where not all of its bytes have room.
+#![tactic(auto)]
 ghost use Rattle.std.specs.Prelude.{◌≡◌};
 ghost use Rattle.lines.specs.Put.{put, after};
 ghost use Rattle.lines.specs.Digits.{hex_of, float_hex, decimal_of};
@@ -13,14 +14,14 @@ mod spell;
 mod word;
 
 // What sixteen bytes mean; the value is 0 where they are not all hex digits.
-#[derive(Drop)]
+#[derive(Clone, Copy)]
 pub struct Sixteen {
     pub ok: bool,
     pub value: u64,
 }
 
 // What nine lines mean; the numbers are 0 where a text is not nine lines.
-#[derive(Drop)]
+#[derive(Clone, Copy)]
 pub struct Nine {
     pub ok: bool,
     pub numbers: [u64; 9],

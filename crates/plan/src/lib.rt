@@ -1,5 +1,6 @@
 // SPDX-License-Identifier: MIT OR Apache-2.0
 // What a start is given and what never changes in a run afterwards: the settings, the plan that is made of them, and what is said of a start.
+#![tactic(auto)]
 ghost use Rattle.std.specs.Prelude.{◌≡◌};
 ghost use Rattle.plan.specs.Plan.{direction_of, plan_of, is_too_near};
 ghost use Rattle.plan.specs.Verdict.{verdict_on};
@@ -10,7 +11,7 @@ pub mod limits;
 
 // What a caller chooses, together as one record; `default_settings` has the module's values.
 #[repr(C)]
-#[derive(Drop)]
+#[derive(Clone, Copy)]
 pub struct Settings {
     pub h: f64,
     pub corrector_tol: f64,
@@ -24,7 +25,7 @@ pub struct Settings {
 
 // What never changes in a run. `h` is the step with its direction.
 #[repr(C)]
-#[derive(Drop)]
+#[derive(Clone, Copy)]
 pub struct Plan {
     pub settings: Settings,
     pub t0: f64,
@@ -33,7 +34,7 @@ pub struct Plan {
 }
 
 // What is said of a start.
-#[derive(Drop)]
+#[derive(Clone, Copy)]
 pub enum Verdict {
     Fine,
     Refuse(Refusal),

@@ -9,7 +9,7 @@ use triple::Triple;
 const MU: f64 = 398600.4418;
 
 // The pull at a position, and whether that is too low for an answer.
-#[derive(Drop)]
+#[derive(Clone, Copy)]
 pub struct Pulled {
     pub low: bool,
     pub a: Triple,

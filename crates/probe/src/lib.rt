@@ -1,6 +1,7 @@
 // SPDX-License-Identifier: MIT OR Apache-2.0
 // Leaves of the library for C, one by one: what tests/roots and bench/ hold to the processor's own root. Apps link `app`, which has none of
 // these names.
+#![tactic(auto)]
 ghost use Rattle.std.specs.Prelude.{◌≡◌, cond};
 ghost use Rattle.root.specs.Root.{root_of};
 ghost use Rattle.triple.specs.Size.{size_of};

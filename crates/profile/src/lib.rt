@@ -1,6 +1,7 @@
 // SPDX-License-Identifier: MIT OR Apache-2.0
 // W-206, the whole-second profile: what a run of whole numbers costs, told before it is begun; and a start that tells it. What is accepted here
 // finishes on time, whatever the force says, if every call brings room for the samples.
+#![tactic(auto)]
 ghost use Rattle.std.specs.Prelude.{◌≡◌};
 ghost use Rattle.profile.specs.Costs.{no_cost, forecast_of};
 ghost use Rattle.profile.specs.Start.{with_cost, started_whole};
@@ -17,7 +18,7 @@ mod wholes;
 // What a run takes. `samples` is the room in samples, `numbers` the same room in numbers of the lent buffer: both 0 where no samples are wanted.
 // `least` and `most` bound the answers that will be accepted.
 #[repr(C)]
-#[derive(Drop)]
+#[derive(Clone, Copy)]
 pub struct Cost {
     pub steps: u64,
     pub samples: u64,
@@ -26,21 +27,21 @@ pub struct Cost {
     pub most: u64,
 }
 
-#[derive(Drop)]
+#[derive(Clone, Copy)]
 pub enum Foreseen {
     Costs(Cost),
     Refused(Refusal),
 }
 
 // What a start in this profile tells. With a refusal the cost is all zero.
-#[derive(Drop)]
+#[derive(Clone, Copy)]
 pub struct WholeTold {
     pub outcome: Outcome,
     pub cost: Cost,
 }
 
 // The run to go on with, which is the plain start's own, and what is told.
-#[derive(Drop)]
+#[derive(Clone, Copy)]
 pub struct WholeStart {
     pub run: Run,
     pub told: WholeTold,

@@ -2,13 +2,14 @@
 // The quintic between two samples: the one curve that meets time, position, velocity and acceleration of both.
 // Evaluated in the order of the module's quintic_hermite, operation by operation; the acceleration, which the module does not tell, in its manner.
 // Total, at equal times and NaN too.
+#![tactic(auto)]
 ghost use Rattle.std.specs.Prelude.{◌≡◌};
 ghost use Rattle.quintic.specs.Quintic.{delta1, delta2, delta3, curve_of, position_on, velocity_on, acceleration_on, quintic_hermite};
 
 use triple::{Sample, Triple};
 
 // What is told of a time between two samples.
-#[derive(Drop)]
+#[derive(Clone, Copy)]
 pub struct Between {
     pub r: Triple,
     pub v: Triple,
@@ -16,7 +17,7 @@ pub struct Between {
 }
 
 // The three highest coefficients, in powers of s.
-#[derive(Drop)]
+#[derive(Clone, Copy)]
 pub struct Curve {
     pub c3: Triple,
     pub c4: Triple,

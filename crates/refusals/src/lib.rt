@@ -1,9 +1,10 @@
 // SPDX-License-Identifier: MIT OR Apache-2.0
 // The refusals, by the names and numbers of documents 01 and 02, and what a call tells that writes or refuses.
+#![tactic(auto)]
 ghost use Rattle.std.specs.Prelude.{◌≡◌};
 ghost use Rattle.refusals.specs.Numbers.{number_of, number_told};
 
-#[derive(Drop)]
+#[derive(Clone, Copy)]
 pub enum Refusal {
     StepNotFinite,
     MaxStepsExceeded,
@@ -24,7 +25,7 @@ pub enum Refusal {
 }
 
 // What a call tells that writes into a lent buffer.
-#[derive(Drop)]
+#[derive(Clone, Copy)]
 pub enum Told {
     Written,
     Refused(Refusal),

@@ -9,7 +9,7 @@ use refusals::Told;
 const FORM: usize = 2048;
 
 // Whether the line ends as it should, and before every how many-th answer the run is put away; 0 is never.
-#[derive(Drop)]
+#[derive(Clone, Copy)]
 pub struct Away {
     pub ok: bool,
     pub every: u64,

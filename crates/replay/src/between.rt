@@ -9,7 +9,7 @@ const MOST: usize = 2048;
 
 const ANSWER: usize = MOST * dense::BETWEEN_NUMBERS;
 
-#[derive(Drop)]
+#[derive(Clone, Copy)]
 pub enum Floats {
     Are(usize),
     Bad,

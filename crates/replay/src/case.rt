@@ -6,7 +6,7 @@ use crate::{away, force, words};
 use gauss_jackson::Settings;
 use triple::Triple;
 
-#[derive(Drop)]
+#[derive(Clone, Copy)]
 pub struct Case {
     pub ok: bool,
     pub settings: Settings,
@@ -20,25 +20,25 @@ pub struct Case {
 }
 
 // Where the reading stands, and whether every word so far had its shape.
-#[derive(Drop)]
+#[derive(Clone, Copy)]
 pub struct Cursor {
     pub at: usize,
     pub ok: bool,
 }
 
-#[derive(Drop)]
+#[derive(Clone, Copy)]
 pub struct GotNumber {
     pub value: u64,
     pub cursor: Cursor,
 }
 
-#[derive(Drop)]
+#[derive(Clone, Copy)]
 pub struct GotTriple {
     pub value: Triple,
     pub cursor: Cursor,
 }
 
-#[derive(Drop)]
+#[derive(Clone, Copy)]
 pub struct GotSettings {
     pub value: Settings,
     pub cursor: Cursor,

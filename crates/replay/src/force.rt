@@ -16,7 +16,7 @@ const MIX: u8 = 3;
 const NONE: u8 = 4;
 
 // A force with its parameters, what it keeps between answers, and the number of the next answer over the whole run.
-#[derive(Drop)]
+#[derive(Clone, Copy)]
 pub struct Force {
     pub kind: u8,
     pub p0: f64,
@@ -26,13 +26,13 @@ pub struct Force {
     pub next: u64,
 }
 
-#[derive(Drop)]
+#[derive(Clone, Copy)]
 pub struct Told {
     pub a: Triple,
     pub force: Force,
 }
 
-#[derive(Drop)]
+#[derive(Clone, Copy)]
 pub struct GotForce {
     pub value: Force,
     pub cursor: Cursor,

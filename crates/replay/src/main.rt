@@ -2,6 +2,7 @@
 // Cases, tables and times on standard input, transcripts on standard output, in the oracle's format: every question, sample, state,
 // count and refusal of the proved library, and what it tells between samples. A case may ask for its run to be put away and taken up on
 // its way, which may change nothing. Reads and writes in pieces; a misshapen line is answered `bad line N`, and the reading goes on.
+#![tactic(auto)]
 mod away;
 mod between;
 mod case;
@@ -18,7 +19,7 @@ const ROOM: usize = 20010;
 
 // What is kept from line to line: the line's number from 1, how much of it is read (past LONGEST it is too long), and how many
 // numbers of samples the last case or table left.
-#[derive(Drop)]
+#[derive(Clone, Copy)]
 pub struct Place {
     pub number: u64,
     pub length: usize,
@@ -26,7 +27,7 @@ pub struct Place {
 }
 
 // After a piece of the input: whether there may be more.
-#[derive(Drop)]
+#[derive(Clone, Copy)]
 pub struct Reading {
     pub place: Place,
     pub going: bool,

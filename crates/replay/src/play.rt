@@ -5,7 +5,7 @@ use crate::force::Force;
 use crate::{away, force, text};
 use gauss_jackson::{Answered, Outcome, Question, Run, Solution};
 
-#[derive(Drop)]
+#[derive(Clone, Copy)]
 pub struct Playing {
     pub now: Answered,
     pub force: Force,

@@ -3,13 +3,13 @@
 ghost use Rattle.std.specs.Prelude.{◌^◌, ◌<◌};
 
 // From start to before end; empty where there is no word left.
-#[derive(Drop)]
+#[derive(Clone, Copy)]
 pub struct Word {
     pub start: usize,
     pub end: usize,
 }
 
-#[derive(Drop)]
+#[derive(Clone, Copy)]
 pub enum Number {
     Is(u64),
     Bad,

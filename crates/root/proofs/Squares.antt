@@ -66,4 +66,7 @@ about n q k a B e = from a (2 ^ k) ((2 * q - 1) * 2 ^ k) ((2 * q + 1) * 2 ^ k) w
 pub root_about : (x : Float) → Double x → NotNegative x → NotNegative (root_of x) × About (units_in (root_of x)) (units_in x * 2 ^ 1074)
 unfolding root_of
 root_about (fin false zero e) F N = (tt, subst (λ (u : ℕ). About u (u * 2 ^ 1074)) (sym ((counted false zero e F).is ∙ zero-mul _)) (record { high = lit≤ tt; low = lit≤ tt }))
+root_about nan F N = elim N [ ]
+root_about (inf _) F N = elim N [ ]
+root_about (fin true _ e) F N = elim N [ ]
 root_about (fin false (suc m) e) F N = let r = rooted m e F in (r.plus, about (in_units (suc m) e * 2 ^ 1074) r.q r.k (units_in (root_of (fin false (suc m) e))) r.between r.units)

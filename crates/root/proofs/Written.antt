@@ -17,6 +17,8 @@ use Rattle.root.proofs.Rounding.{root_units, root_digits_lem, root_double}
 
 bits_of_units : (v : Float) (a : ℕ) → Units v a → to_bits binary64 v ≡ (size a - 53) * 2 ^ 52 + a / 2 ^ (size a - 53)
 unfolding to_bits
+bits_of_units lib.Ieee.nan a h = elim h [ ]
+bits_of_units (lib.Ieee.inf _) a h = elim h [ ]
 bits_of_units (fin true m e) a h = absurd (true≢false h.0)
 bits_of_units (fin false m e) a h =
     let u : m * up e * 2 ^ 1074 / down e ≡ a = ap (λ (x : ℕ). x / down e) h.1 ∙ mul-div_cancel a (down_pos e) in

@@ -1,6 +1,8 @@
 // SPDX-License-Identifier: MIT OR Apache-2.0
 // The square root of an f64, rounded once: the double nearest to it, which is never a tie. Worked out in whole numbers from the float's
 // pattern, since the kit has no root of its own.
+#![tactic(auto)]
+
 ghost use Rattle.std.specs.Prelude.{◌≡◌, ◌+◌, ◌*◌, ◌^◌, ◌<◌, ◌≤◌};
 ghost use Rattle.root.specs.Root.{root_of};
 ghost use Rattle.root.specs.Parts.{Floor, Evened, Rounded, units_of};
@@ -15,7 +17,7 @@ const TWO_52: u64 = 4_503_599_627_370_496;
 const INFINITY: u64 = 0x7ff0_0000_0000_0000;
 
 // m * 2^(2 h).
-#[derive(Drop)]
+#[derive(Clone, Copy)]
 struct Even {
     pub m: u64,
     pub h: u64,

@@ -1,6 +1,7 @@
 // SPDX-License-Identifier: MIT OR Apache-2.0
 // The run: its records, and the mathematics of each waiting point by parts. Nothing here decides what an answer leads to; that is
 // `gauss_jackson`, which alone is meant for callers.
+#![tactic(auto)]
 use plan::Plan;
 use startup::{Places, Widest};
 use sums::{Fixed, Sums};
@@ -14,7 +15,7 @@ pub mod waiting;
 
 // Where the run waits, and the mathematics.
 #[repr(C)]
-#[derive(Drop)]
+#[derive(Clone, Copy)]
 pub struct Run {
     pub mark: Mark,
     pub body: Body,
@@ -22,7 +23,7 @@ pub struct Run {
 
 // The waiting point in numbers (`waiting` has their meaning), and the counts of the open question.
 #[repr(C)]
-#[derive(Drop)]
+#[derive(Clone, Copy)]
 pub struct Mark {
     pub at: u8,
     pub index: u8,
@@ -32,7 +33,7 @@ pub struct Mark {
 
 // The open question's number, and the answers accepted before it.
 #[repr(C)]
-#[derive(Drop)]
+#[derive(Clone, Copy)]
 pub struct Count {
     pub number: u16,
     pub evals: u64,
@@ -40,7 +41,7 @@ pub struct Count {
 
 // All that the questions to come depend on.
 #[repr(C)]
-#[derive(Drop)]
+#[derive(Clone, Copy)]
 pub struct Body {
     pub plan: Plan,
     pub places: Places,
@@ -54,7 +55,7 @@ pub struct Body {
 
 // The accelerations got so far in the open RK4 step.
 #[repr(C)]
-#[derive(Drop)]
+#[derive(Clone, Copy)]
 pub struct Slopes {
     pub l1: Triple,
     pub l2: Triple,
@@ -63,7 +64,7 @@ pub struct Slopes {
 
 // The newest point after the startup: its time, its state, the running sums there, and the steps made.
 #[repr(C)]
-#[derive(Drop)]
+#[derive(Clone, Copy)]
 pub struct Track {
     pub t: f64,
     pub steps: u64,
@@ -73,7 +74,7 @@ pub struct Track {
 
 // The open step: the state that was last worked out for its end, and what its passes share.
 #[repr(C)]
-#[derive(Drop)]
+#[derive(Clone, Copy)]
 pub struct Trial {
     pub state: State,
     pub fixed: Fixed,

@@ -6,7 +6,7 @@ ghost use Rattle.run.specs.Waiting.{stage_number, is_last, stage_after, at_numbe
 use crate::{Count, Mark};
 
 // Which of its four questions an RK4 step has open.
-#[derive(Drop)]
+#[derive(Clone, Copy)]
 pub enum Stage {
     First,
     Second,
@@ -14,7 +14,7 @@ pub enum Stage {
     Fourth,
 }
 
-#[derive(Drop)]
+#[derive(Clone, Copy)]
 pub enum Waiting {
     // The acceleration at the epoch.
     Epoch,

@@ -1,6 +1,7 @@
 // SPDX-License-Identifier: MIT OR Apache-2.0
 // The startup's nine points: their times and places, what a pass makes of them, and when the passes stop.
 // By parts of the run; nothing here asks a question.
+#![tactic(auto)]
 ghost use Rattle.std.specs.Prelude.{◌≡◌};
 ghost use Rattle.startup.specs.Points.{time_at, state_at, point_at, first_places, placed};
 
@@ -10,7 +11,7 @@ pub mod passes;
 
 // Position and velocity of the nine points; the epoch is point 4.
 #[repr(C)]
-#[derive(Drop)]
+#[derive(Clone, Copy)]
 pub struct Places {
     pub r: [Triple; 9],
     pub v: [Triple; 9],
@@ -18,7 +19,7 @@ pub struct Places {
 
 // The largest change and the largest acceleration that the open pass has met.
 #[repr(C)]
-#[derive(Drop)]
+#[derive(Clone, Copy)]
 pub struct Widest {
     pub delta: f64,
     pub mag: f64,

@@ -8,7 +8,7 @@ use sums::Sums;
 use triple::{State, Triple};
 
 // Four points in a row, the nearest to the epoch first.
-#[derive(Drop)]
+#[derive(Clone, Copy)]
 pub struct Four {
     pub one: State,
     pub two: State,

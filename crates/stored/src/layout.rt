@@ -8,7 +8,7 @@ use run::waiting::Waiting;
 
 // What is used at a waiting point. Of the nine points' places those from `from` to `last`; of the accelerations those from `since` to
 // before `until`, but of the fourth `epoch` tells by itself; so many slopes of the open RK4 step.
-#[derive(Drop)]
+#[derive(Clone, Copy)]
 pub struct Uses {
     pub index: bool,
     pub stage: bool,

@@ -1,6 +1,7 @@
 // SPDX-License-Identifier: MIT OR Apache-2.0
 // Weighted sums of accelerations, the running sums s and S, and the positions and velocities that come of them,
 // in 01's order of rounding. A row is named by a literal wherever it is known, so that its coefficients fold in.
+#![tactic(auto)]
 ghost use Rattle.std.specs.Prelude.{◌≡◌};
 ghost use Rattle.sums.specs.Weighted.{weighted, weighted_next, sum_a, sum_b, fixed_a, fixed_b};
 ghost use Rattle.sums.specs.Sums.{epoch_sums, on_sums, back_sums, point_of, predicted_state, fixed_of, corrected_state};
@@ -9,7 +10,7 @@ use triple::{State, Triple};
 
 // The first sum s and the second, S, at one point.
 #[repr(C)]
-#[derive(Drop)]
+#[derive(Clone, Copy)]
 pub struct Sums {
     pub s: Triple,
     pub big_s: Triple,
@@ -17,7 +18,7 @@ pub struct Sums {
 
 // FA and FB: the part of a corrector pass that no pass changes.
 #[repr(C)]
-#[derive(Drop)]
+#[derive(Clone, Copy)]
 pub struct Fixed {
     pub fa: Triple,
     pub fb: Triple,

@@ -1,6 +1,8 @@
 // SPDX-License-Identifier: MIT OR Apache-2.0
 // Triples of f64, and the three records that are made of them: all by value, laid out as C has them; every function is total.
 // Operations go component by component, each product and each sum rounded once (01, "What is carried over").
+#![tactic(auto)]
+
 ghost use Rattle.std.specs.Prelude.{◌≡◌};
 ghost use Rattle.triple.specs.Arithmetic.{zeros, plus, minus, times, over};
 ghost use Rattle.triple.specs.Size.{absolute, larger_of, mean_square, size_of};
@@ -9,7 +11,7 @@ ghost use Rattle.triple.specs.Finite.{is_finite};
 pub mod nine;
 
 #[repr(C)]
-#[derive(Drop)]
+#[derive(Clone, Copy)]
 pub struct Triple {
     pub x: f64,
     pub y: f64,
@@ -18,7 +20,7 @@ pub struct Triple {
 
 // A position and a velocity, at a time that is known otherwise.
 #[repr(C)]
-#[derive(Drop)]
+#[derive(Clone, Copy)]
 pub struct State {
     pub r: Triple,
     pub v: Triple,
@@ -26,7 +28,7 @@ pub struct State {
 
 // Where a question is asked: a time, a position and a velocity.
 #[repr(C)]
-#[derive(Drop)]
+#[derive(Clone, Copy)]
 pub struct Point {
     pub t: f64,
     pub r: Triple,
@@ -35,7 +37,7 @@ pub struct Point {
 
 // What is stored of a step: its point, and the acceleration there.
 #[repr(C)]
-#[derive(Drop)]
+#[derive(Clone, Copy)]
 pub struct Sample {
     pub t: f64,
     pub r: Triple,

@@ -1,0 +1,320 @@
+#!/usr/bin/env python3
+# SPDX-License-Identifier: MIT OR Apache-2.0
+"""Turns proofs that walk a function by hand (proofs/F/Proof.antt) into its Invariants.antt and Answers.antt.
+
+usage: tools/answers_of_walks.py CRATE NAMES.json [F ..]      at the top of the checkout
+
+NAMES.json is what `rt check --generated FOLDER --old-names` wrote in the crate: the goals and steps of each function under their old and their new
+names. An answer that only says `search` is left out, since the check tries that itself. What was turned is put away as Proof.antt.old.
+"""
+import json
+import os
+import re
+import sys
+
+WORD = r"[^\s(){}\[\],;@\"«»]+"
+MADE = {"taken": "true", "left": "false", "pre": "requires", "inv": "invariant", "well-formed": "well_formed"}
+ROOTS = {"args", "requires", "well_formed", "ranges", "pre", "well-formed"}
+
+
+def plain(name):
+    return name.replace("_", "-")
+
+
+class Walk:
+    def __init__(self, info):
+        self.info = info
+        self.parent, self.field, self.new = {}, {}, {}
+        for row, by_name in zip(info["places"], info["places_by_name"]):
+            self.parent[row[0]] = row[1]
+            self.field[row[0]] = row[2]
+            self.new[row[0]] = by_name
+        self.typed = {row[0]: bool(t) for row, t in zip(info["places"], info["typed"])}
+        self.asked = {new for _, new in info["asked_at"]}
+        self.by_plain = {}
+        for row in info["places"]:
+            self.by_plain.setdefault(plain(row[0]), row[0])
+            self.by_plain.setdefault(plain(self.new[row[0]]), row[0])
+
+    def place(self, name):
+        return self.by_plain.get(plain(name))
+
+
+def chunks(text):
+    out, now = [], []
+    head = True
+    for line in text.split("\n"):
+        top = line[:1] not in ("", " ", ")", "}")
+        if top and now and not head:
+            if now[-1].startswith("--") and not line.startswith("--"):
+                now.append(line)
+                head = False
+                continue
+            first = next((x for x in now if not x.startswith("--")), "")
+            name = re.match(r"(?:pub |abbrev |unfoldable )*(\S+)", first)
+            if name and re.match(rf"(?:unfolding\b|{re.escape(name[1])} )", line) and not line.startswith("use "):
+                now.append(line)
+                continue
+            out.append("\n".join(now).strip("\n"))
+            now = [line]
+            continue
+        if line.strip():
+            head = False
+        now.append(line)
+    if now:
+        out.append("\n".join(now).strip("\n"))
+    return [c for c in out if c.strip()]
+
+
+def arguments(text):
+    """The arguments of tie.spec, as texts."""
+    i = text.index("tie.spec") + len("tie.spec")
+    out, depth, now = [], 0, ""
+    for ch in text[i:]:
+        if depth == 0 and ch in " \n":
+            if now:
+                out.append(now)
+            now = ""
+            continue
+        if ch in "({[":
+            depth += 1
+        if ch in ")}]":
+            if depth == 0:
+                break
+            depth -= 1
+        now += ch
+    if now:
+        out.append(now)
+    return out
+
+
+def follow(walk, place, fields):
+    """The new path of fields from a place: how many befores, the fields, the place that is reached (if it ends there)."""
+    n = 0
+    while fields and fields[0] == "before":
+        up = walk.parent.get(place)
+        if up is None:
+            break
+        place, fields, n = up, fields[1:], n + 1
+    if not fields:
+        return n, [], place
+    f = fields[0]
+    old, new = walk.field[place]
+    rest = [MADE.get(x, x) for x in fields[1:]]
+    if plain(f) in (plain(old), plain(new)) and old:
+        return n, [new] + rest, None
+    if f in ROOTS or MADE.get(f) in ROOTS:
+        return n, [MADE.get(f, f)] + rest, None
+    q = place
+    while q is not None:
+        old, new = walk.field[q]
+        if old and plain(f) in (plain(old), plain(new)):
+            return n, [new] + rest, None
+        q = walk.parent.get(q)
+    return n, [f] + rest, None
+
+
+def body_of(walk, text, env, renamed):
+    env = dict(env)
+    out, pos = [], 0
+    for m in re.finditer(rf"λ \((\S+) : (?:tie|lts)\.([^\s()]+)[^()]*\)|let (\S+) = ({WORD}) in|{WORD}", text):
+        out.append(text[pos:m.start()])
+        pos = m.end()
+        if m[1]:
+            place = walk.place(m[2])
+            if place:
+                env[m[1]] = place
+            out.append(m[0])
+            continue
+        if m[3]:
+            path = m[4].split(".")
+            if path[0] in env:
+                n, fields, reached = follow(walk, env[path[0]], path[1:])
+                if reached is not None:
+                    env[m[3]] = reached
+                    out.append(f"let {m[3]} = {path[0]} in")
+                else:
+                    out.append(f"let {m[3]} = {'.'.join([path[0]] + fields)} in")
+                    env.pop(m[3], None)
+                continue
+            out.append(f"let {m[3]} = {turned(walk, m[4], env, renamed)} in")
+            continue
+        out.append(turned(walk, m[0], env, renamed))
+    out.append(text[pos:])
+    return "".join(out)
+
+
+def turned(walk, word, env, renamed):
+    if word in renamed:
+        return renamed[word]
+    path = word.split(".")
+    if path[0] in env and len(path) > 1:
+        place = env[path[0]]
+        n, fields, reached = follow(walk, place, path[1:])
+        if reached is not None:
+            return ".".join([path[0]] + ["before"] * (n + (1 if walk.typed.get(place) else 0)))
+        return ".".join([path[0]] + fields)
+    return word
+
+
+def bound(walk, text):
+    env = {}
+    for m in re.finditer(r"\((\S+) : (?:tie|lts)\.([^\s()]+)", text):
+        place = walk.place(m[2])
+        if place:
+            env[m[1]] = place
+    return env
+
+
+def type_names(walk, text):
+    def one(m):
+        place = walk.place(m[2])
+        if place is None:
+            return m[0]
+        new = walk.new[place]
+        if new in walk.asked:
+            return f"goal.{new}"
+        return f"lts.{new} reads.Pre reads.Post"
+
+    return re.sub(r"\b(tie|lts)\.((?:Start|Then|Else|After|At|In|Joined|in-|Arm)[^\s()→]*)((?: (?:reads\.\w+|invariant_\w+|decreases_\w+|Inv-\S+|μ-\S+))*)", one, text)
+
+
+def turn(crate, function, info):
+    folder = f"crates/{crate}/proofs/{function.replace('.', '/')}"
+    path = f"{folder}/Proof.antt"
+    if not os.path.exists(path):
+        return None
+    with open(path, encoding="utf-8") as f:
+        text = f.read()
+    if "tie.spec" not in text:
+        return f"{path}: no tie.spec"
+    walk = Walk(info)
+    parts = chunks(text)
+    closing = next(c for c in parts if "tie.spec" in c)
+    parts.remove(closing)
+    given = arguments(closing)
+    loops, needs = info["loops"], info["needs"]
+    if len(given) != 2 * len(loops) + len(needs):
+        said = f"{path}: {len(given)} arguments for {len(loops)} loops and {len(needs)} goals"
+    else:
+        said = None
+    renamed, invariants = {}, []
+    for k, ((_, new), names) in enumerate(loops):
+        for kind, arg in (("invariant", given[2 * k]), ("decreases", given[2 * k + 1])):
+            renamed[arg] = f"{kind}-{new}"
+            invariants.append((arg, kind, new, names, info["changed"][k]))
+    answers, inline = {}, []
+    for (old, new), (at_old, _), arg in zip(needs, info["asked_at"], given[2 * len(loops):]):
+        if re.fullmatch(r"[^\s()]+", arg):
+            answers.setdefault(arg, []).append((new, at_old))
+        elif not re.fullmatch(r"\(λ [^.]*\. search \w+\)", arg):
+            inline.append((new, at_old, arg))
+    for arg, its in answers.items():
+        renamed[arg] = its[0][0]
+    uses, comment, files = [], [], {"Invariants": [], "Answers": []}
+    for part in parts:
+        lines = part.split("\n")
+        if all(x.startswith(("--", "use ")) or not x.strip() for x in lines):
+            comment += [x for x in lines if x.startswith("--")] if not uses else []
+            uses += [x for x in lines if x.startswith("use ") and not re.search(r"\.(Statement\.\{|Tie as|Reads as|Lts as)", x)]
+            continue
+        name = next(re.match(r"(?:pub |abbrev |unfoldable )*(\S+)", x)[1] for x in lines if not x.startswith("--"))
+        inv = next((x for x in invariants if x[0] == name), None)
+        if inv:
+            _, kind, new, names, changed = inv
+            body = "\n".join(lines)
+            clause = re.search(rf"(?m)^{re.escape(name)} (.*?) =\s", body)
+            params = clause[1].split()
+            order = [f"l.initial.{v}" if ch else f"l.{v}" for v, ch in zip(names, changed)] + [f"l.{v}" for v, ch in zip(names, changed) if ch]
+            mapping = dict(zip(params, order)) if len(params) == len(order) else {}
+            mapping.pop("_", None)
+            term = body[clause.end():]
+            term = re.sub(r"[^\s(){}\[\],;@\"«».]+", lambda m: mapping.get(m[0], m[0]) if m.start() == 0 or term[m.start() - 1] != "." else m[0], term)
+            notes = [x for x in lines if x.startswith("--")]
+            unfolding = [x for x in lines if x.startswith("unfolding")]
+            label = f"{kind}-{new}"
+            sep = "\n" if "\n" in body[clause.end() - 1:clause.end()] else " "
+            files["Invariants"].append("\n".join(notes + [f"abbrev pub {label} : goal.{label}"] + unfolding + [f"{label} l ={sep}{term}" + ("" if mapping else f"  -- {params} {order}")]))
+            continue
+        if name in answers:
+            for new, at in answers[name]:
+                clause = re.search(rf"(?m)^{re.escape(name)}((?: [^\s=]+)*) =", part)
+                if clause is None:
+                    files["Answers"].append("-- by hand: " + part)
+                    continue
+                params = clause[1].split()
+                notes = [x for x in lines if x.startswith("--")]
+                unfolding = [x for x in lines if x.startswith("unfolding")]
+                term = part[clause.end():]
+                if re.fullmatch(r"\s*search \w+\s*", term):
+                    continue
+                env = {params[0]: at} if params else {}
+                term = body_of(walk, type_names(walk, term), env, renamed)
+                first = params[0] if params else "c"
+                files["Answers"].append("\n".join(notes + [f"pub {new} : goal.{new}"] + unfolding + [f"{new} {first} ={term}"]))
+            continue
+        env = bound(walk, part)
+        # a helper's own parameters, by its signature
+        sig = re.search(r"(?m)^(?:pub |abbrev |unfoldable )*\S+ :((?:.|\n)*?)\n(?:unfolding.*\n)?" + re.escape(name) + r"((?: [^\s=]+)*) =", part)
+        if sig:
+            binders = re.findall(r"\((\S+(?: \S+)*) :", sig[1])
+            flat = [b for g in binders for b in g.split()]
+            for a, b in zip(flat, sig[2].split()):
+                if a in env:
+                    env[b] = env[a]
+        files["Answers"].append(body_of(walk, type_names(walk, part), env, renamed))
+    for new, at, arg in inline:
+        m = re.fullmatch(r"\(λ (\S+)(?: [^.]*)?\.\s((?:.|\n)*)\)", arg)
+        if m:
+            files["Answers"].append(f"pub {new} : goal.{new}\n{new} {m[1]} = " + body_of(walk, type_names(walk, m[2]), {m[1]: at}, renamed))
+        else:
+            files["Answers"].append(f"pub {new} : goal.{new}\n{new} = " + body_of(walk, type_names(walk, arg), {}, renamed))
+    for kind, its in files.items():
+        if not its:
+            continue
+        target = f"{folder}/{kind}.antt"
+        needed = list(uses)
+        body = "\n\n".join(its)
+        if kind == "Answers":
+            needed.append(f"use Rattle.{crate}.proofs.{function}.Goals as goal")
+            if "lts." in body:
+                needed += [f"use Rattle.{crate}.proofs.{function}.Lts as lts", f"use Rattle.{crate}.proofs.{function}.Reads as reads"]
+        else:
+            needed.append(f"use Rattle.{crate}.proofs.{function}.Given as goal")
+        kept = []
+        for u in needed:
+            m = re.match(r"use (\S+)\.\{(.*)\}$", u)
+            if m:
+                items = [x.strip() for x in m[2].split(",")]
+                items = [x for x in items if used(x.split(" as ")[-1], body)]
+                if items:
+                    kept.append(f"use {m[1]}.{{{', '.join(items)}}}")
+            else:
+                kept.append(u)
+        with open(target, "w", encoding="utf-8") as f:
+            f.write("\n".join(comment + kept) + "\n\n" + body + "\n")
+    os.rename(path, path + ".old")
+    return said
+
+
+def used(item, body):
+    if "◌" in item:
+        return True
+    return re.search(rf"(?<![^\s(){{}}\[\].,;@]){re.escape(item)}(?![^\s(){{}}\[\].,;@])", body) is not None
+
+
+def main(argv):
+    crate, names, only = argv[0], argv[1], argv[2:]
+    with open(names, encoding="utf-8") as f:
+        table = json.load(f)
+    for key, info in table.items():
+        m = re.fullmatch(rf"Rattle-{crate}-proofs\.(.*)\.Lts", key)
+        if not m or only and m[1] not in only:
+            continue
+        said = turn(crate, m[1], info)
+        if said:
+            print(said)
+
+
+if __name__ == "__main__":
+    main(sys.argv[1:])
