@@ -29,6 +29,13 @@ class Walk:
             self.parent[row[0]] = row[1]
             self.field[row[0]] = row[2]
             self.new[row[0]] = by_name
+        self.args = {}
+        for old, new in info["args"]:
+            m, k = re.fullmatch(r"\.(\w+) \.(\S+)", old), re.fullmatch(r"\.(\w+) \.(\S+)", new)
+            if m and k:
+                self.args[f"{m[1]}.{m[2]}"] = k[2]
+        self.arms = {row[0]: arm for row, arm in zip(info["places"], info["arms"]) if arm}
+        self.helpers = {}
         self.typed = {row[0]: bool(t) for row, t in zip(info["places"], info["typed"])}
         self.asked = {new for _, new in info["asked_at"]}
         self.by_plain = {}
@@ -88,35 +95,51 @@ def arguments(text):
     return out
 
 
+def bare_name(name):
+    return plain(name[: -len("_lem")] if name.endswith("_lem") else name)
+
+
 def follow(walk, place, fields):
     """The new path of fields from a place: how many befores, the fields, the place that is reached (if it ends there)."""
-    n = 0
+    n, start = 0, place
     while fields and fields[0] == "before":
         up = walk.parent.get(place)
         if up is None:
             break
         place, fields, n = up, fields[1:], n + 1
+    fields = [x for i, x in enumerate(fields) if x != "before" or any(y != "before" for y in fields[:i])]
     if not fields:
         return n, [], place
     f = fields[0]
-    old, new = walk.field[place]
     rest = [MADE.get(x, x) for x in fields[1:]]
-    if plain(f) in (plain(old), plain(new)) and old:
-        return n, [new] + rest, None
     if f in ROOTS or MADE.get(f) in ROOTS:
-        return n, [MADE.get(f, f)] + rest, None
-    q = place
-    while q is not None:
-        old, new = walk.field[q]
-        if old and plain(f) in (plain(old), plain(new)):
-            return n, [new] + rest, None
-        q = walk.parent.get(q)
+        f = MADE.get(f, f)
+        if rest and f"{f}.{rest[0]}" in walk.args:
+            rest[0] = walk.args[f"{f}.{rest[0]}"]
+        return n, [f] + rest, None
+    def above(q):
+        while q is not None:
+            yield q
+            q = walk.parent.get(q)
+
+    for which, same in ((0, lambda x: plain(x) == plain(f)), (0, lambda x: plain(x) == bare_name(f)), (1, lambda x: plain(x) == plain(f))):
+        for q in [*above(place), *above(start)]:
+            name = walk.field[q][which]
+            if name and same(name):
+                new = walk.field[q][1]
+                arm = walk.arms.get(q)
+                if arm:
+                    for fresh, old, sub in sorted(arm[2], key=lambda r: -len(r[2])):
+                        if rest[: len(sub)] == sub:
+                            rest = [fresh] + rest[len(sub):]
+                            break
+                return n, [new] + rest, None
     return n, [f] + rest, None
 
 
 def body_of(walk, text, env, renamed):
     env = dict(env)
-    out, pos = [], 0
+    out, pos, helper = [], 0, None
     for m in re.finditer(rf"λ \((\S+) : (?:tie|lts)\.([^\s()]+)[^()]*\)|let (\S+) = ({WORD}) in|{WORD}", text):
         out.append(text[pos:m.start()])
         pos = m.end()
@@ -131,30 +154,49 @@ def body_of(walk, text, env, renamed):
             if path[0] in env:
                 n, fields, reached = follow(walk, env[path[0]], path[1:])
                 if reached is not None:
+                    bare = re.search(rf"(?<![^\s(){{}}\[\],;]){re.escape(m[3])}(?![^\s(){{}}\[\],;])", text[m.end():])
+                    by = next((h for h in walk.helpers if re.search(rf"(?<![^\s(]){re.escape(h)} {re.escape(m[3])}(?![^\s(){{}}\[\],;])", text[m.end():])), None)
+                    up = ["before"] * up_to(walk, env[path[0]], n, by) if bare else []
                     env[m[3]] = reached
-                    out.append(f"let {m[3]} = {path[0]} in")
+                    out.append(f"let {m[3]} = {'.'.join([path[0]] + up)} in")
                 else:
                     out.append(f"let {m[3]} = {'.'.join([path[0]] + fields)} in")
                     env.pop(m[3], None)
                 continue
             out.append(f"let {m[3]} = {turned(walk, m[4], env, renamed)} in")
             continue
-        out.append(turned(walk, m[0], env, renamed))
+        out.append(turned(walk, m[0], env, renamed, helper))
+        helper = m[0] if m[0] in walk.helpers else None
     out.append(text[pos:])
     return "".join(out)
 
 
-def turned(walk, word, env, renamed):
+def turned(walk, word, env, renamed, helper=None):
     if word in renamed:
         return renamed[word]
     path = word.split(".")
-    if path[0] in env and len(path) > 1:
+    if path[0] in env and (len(path) > 1 or helper):
         place = env[path[0]]
         n, fields, reached = follow(walk, place, path[1:])
         if reached is not None:
-            return ".".join([path[0]] + ["before"] * (n + (1 if walk.typed.get(place) else 0)))
+            return ".".join([path[0]] + ["before"] * up_to(walk, place, n, helper))
         return ".".join([path[0]] + fields)
     return word
+
+
+def up_to(walk, place, n, helper):
+    """How many befores lead from a place to the one that a helper takes."""
+    target = walk.helpers.get(helper)
+    if target:
+        q, k = place, 0
+        while q is not None and q != target:
+            q, k = walk.parent.get(q), k + 1
+        if q is None:
+            return n
+        n = k
+        if n == 0:
+            return 0
+    return n + (1 if walk.typed.get(place) else 0)
 
 
 def bound(walk, text):
@@ -167,16 +209,36 @@ def bound(walk, text):
 
 
 def type_names(walk, text):
-    def one(m):
+    """The type of a place: by its goal's name where a goal is asked there."""
+    out, pos = [], 0
+    for m in re.finditer(r"\b(tie|lts)\.([A-Z][^\s()→]*)", text):
+        if m.start() < pos:
+            continue
         place = walk.place(m[2])
         if place is None:
-            return m[0]
+            continue
+        out.append(text[pos:m.start()])
+        pos, claims = m.end(), ""
+        while True:
+            rest = text[pos:]
+            word = re.match(r" (?:reads\.\w+|invariant[_-]\S+|decreases[_-]\S+)(?=[\s)])", rest)
+            if word:
+                pos += word.end()
+            elif rest.startswith(" ("):
+                depth, k = 0, 1
+                while True:
+                    depth += {"(": 1, ")": -1}.get(rest[k], 0)
+                    k += 1
+                    if depth == 0:
+                        break
+                claims += rest[:k]
+                pos += k
+            else:
+                break
         new = walk.new[place]
-        if new in walk.asked:
-            return f"goal.{new}"
-        return f"lts.{new} reads.Pre reads.Post"
-
-    return re.sub(r"\b(tie|lts)\.((?:Start|Then|Else|After|At|In|Joined|in-|Arm)[^\s()→]*)((?: (?:reads\.\w+|invariant_\w+|decreases_\w+|Inv-\S+|μ-\S+))*)", one, text)
+        out.append(f"goal.{new}" if new in walk.asked else f"lts.{place}{claims} reads.Pre reads.Post")
+    out.append(text[pos:])
+    return "".join(out)
 
 
 def turn(crate, function, info):
@@ -207,16 +269,24 @@ def turn(crate, function, info):
     for (old, new), (at_old, _), arg in zip(needs, info["asked_at"], given[2 * len(loops):]):
         if re.fullmatch(r"[^\s()]+", arg):
             answers.setdefault(arg, []).append((new, at_old))
-        elif not re.fullmatch(r"\(λ [^.]*\. search \w+\)", arg):
+        elif not re.fullmatch(r"\(λ [^.]*\. search \w+\)", arg) or re.search(r"(?m)^unfolding ", closing):
             inline.append((new, at_old, arg))
     for arg, its in answers.items():
         renamed[arg] = its[0][0]
+    for part in parts:
+        m = re.search(r"(?m)^module _ \((\S+) : (?:tie|lts)\.([^\s()]+)", part)
+        if m and walk.place(m[2]):
+            for name in re.findall(r"(?m)^  (?:pub |abbrev )*(\S+) :", part):
+                walk.helpers[name] = walk.place(m[2])
+        for m in re.finditer(r"(?m)^(?:pub |abbrev )*(\S+) : \((\S+) : (?:tie|lts)\.([^\s()]+)", part):
+            if walk.place(m[3]):
+                walk.helpers[m[1]] = walk.place(m[3])
     uses, comment, files = [], [], {"Invariants": [], "Answers": []}
     for part in parts:
         lines = part.split("\n")
         if all(x.startswith(("--", "use ")) or not x.strip() for x in lines):
             comment += [x for x in lines if x.startswith("--")] if not uses else []
-            uses += [x for x in lines if x.startswith("use ") and not re.search(r"\.(Statement\.\{|Tie as|Reads as|Lts as)", x)]
+            uses += [x for x in lines if x.startswith("use ") and not re.search(r"\.(Statement\.\{|Tie as|Reads as reads|Lts as)", x)]
             continue
         name = next(re.match(r"(?:pub |abbrev |unfoldable )*(\S+)", x)[1] for x in lines if not x.startswith("--"))
         inv = next((x for x in invariants if x[0] == name), None)
@@ -246,7 +316,7 @@ def turn(crate, function, info):
                 notes = [x for x in lines if x.startswith("--")]
                 unfolding = [x for x in lines if x.startswith("unfolding")]
                 term = part[clause.end():]
-                if re.fullmatch(r"\s*search \w+\s*", term):
+                if re.fullmatch(r"\s*search \w+\s*", term) and not unfolding:
                     continue
                 env = {params[0]: at} if params else {}
                 term = body_of(walk, type_names(walk, term), env, renamed)
@@ -263,15 +333,19 @@ def turn(crate, function, info):
                 if a in env:
                     env[b] = env[a]
         files["Answers"].append(body_of(walk, type_names(walk, part), env, renamed))
+    opened = re.search(r"(?m)^unfolding .*$", closing)
+    opened = "\n" + opened[0] if opened else ""
     for new, at, arg in inline:
         m = re.fullmatch(r"\(λ (\S+)(?: [^.]*)?\.\s((?:.|\n)*)\)", arg)
         if m:
-            files["Answers"].append(f"pub {new} : goal.{new}\n{new} {m[1]} = " + body_of(walk, type_names(walk, m[2]), {m[1]: at}, renamed))
+            files["Answers"].append(f"pub {new} : goal.{new}{opened}\n{new} {m[1]} = " + body_of(walk, type_names(walk, m[2]), {m[1]: at}, renamed))
         else:
-            files["Answers"].append(f"pub {new} : goal.{new}\n{new} = " + body_of(walk, type_names(walk, arg), {}, renamed))
+            files["Answers"].append(f"pub {new} : goal.{new}{opened}\n{new} = " + body_of(walk, type_names(walk, arg), {}, renamed))
     for kind, its in files.items():
         if not its:
             continue
+        # a test of not b tells of b itself now
+        its[:] = [re.sub(r"\bnot-(?:true|false) (?:[^\s()]+|\([^()]*\)) ([^\s(),]*if-not-[^\s(),]*\.(?:true|false))", r"\1", it) for it in its]
         target = f"{folder}/{kind}.antt"
         needed = list(uses)
         body = "\n\n".join(its)
@@ -290,7 +364,9 @@ def turn(crate, function, info):
                 if items:
                     kept.append(f"use {m[1]}.{{{', '.join(items)}}}")
             else:
-                kept.append(u)
+                alias = re.search(r" as (\S+)$", u)
+                if not alias or alias[1] + "." in body:
+                    kept.append(u)
         with open(target, "w", encoding="utf-8") as f:
             f.write("\n".join(comment + kept) + "\n\n" + body + "\n")
     os.rename(path, path + ".old")

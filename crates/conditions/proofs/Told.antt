@@ -98,10 +98,15 @@ module _ (tol q k : Float) (F : Double tol) (G : Double q) (u : is_usual tol q �
   told_below (inf false) H P h = absurd (false≢true (sym (never k N (limit_of tol q) L.L L.are) ∙ h))
     where
       infinite : (b : Bool) (y : Float) (n : ℕ) → Units y n → lt (cond b nan (inf false)) y ≡ false
+      infinite false nan n Y = elim Y [ ]
+      infinite false (inf _) n Y = elim Y [ ]
       infinite true y n Y = unfold lt in refl
       infinite false (fin s m e) n Y = unfold lt in refl
 
       never : (k : Float) → NotNegative k → (y : Float) (n : ℕ) → Units y n → lt (mul binary64 (inf false) k) y ≡ false
+      never nan N y n Y = elim N [ ]
+      never (inf _) N y n Y = elim N [ ]
+      never (fin true m e) N y n Y = elim N [ ]
       never (fin false m e) N y n Y = unfold mul in infinite (eqb m 0) y n Y
   told_below (fin true m e) H P h = absurd P
   told_below (fin false m e) H P h = number_below (fin false m e) H tt h
@@ -123,6 +128,8 @@ module _ (tol q k : Float) (F : Double tol) (G : Double q) (u : is_usual tol q �
   told_above (inf false) H P h = endless (add binary64 (root_of q) tiny) S.D S.are
     where
       over : (y : Float) (n : ℕ) → Units y n → lt (div binary64 (inf false) y) tol ≡ false
+      over nan n Y = elim Y [ ]
+      over (inf _) n Y = elim Y [ ]
       over (fin true m e) n Y = absurd (true≢false Y.0)
       over (fin false m e) n Y = unfold div in top tol
         where

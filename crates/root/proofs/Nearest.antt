@@ -125,4 +125,7 @@ root_only (fin false (suc m) e) r F a =
     n = in_units (suc m) e * 2 ^ 1074
 
     in_units_lem : {a : ℕ} (y : Float) → NotNegative y → NearerThan n a y → Nearer n a (units_in y)
+    in_units_lem nan N h = elim N [ ]
+    in_units_lem (inf _) N h = elim N [ ]
+    in_units_lem (fin true p d) N h = elim N [ ]
     in_units_lem (fin false p d) N h = h

@@ -6,7 +6,7 @@ use native.Mathlib.Omega.{arith}
 use mathlib.Core.Bool.{Bool, true, false, not, true≢false}
 use lib.Dec.{T}
 use lib.Pow.{pow_pos}
-use lib.Ieee.{Float, fin, binary64, up, down, size, is_nan, nan_bits, of_bits, to_bits}
+use lib.Ieee.{inf, nan, Float, fin, binary64, up, down, size, is_nan, nan_bits, of_bits, to_bits}
 use lib.Ieee.Fits.{down_pos}
 use lib.Ieee.Bits.{nan_bits_is}
 use Rattle.double.proofs.Patterns.{read_back}
@@ -41,4 +41,6 @@ unfolding is_nan
 no_nan n r R = subst (λ (b : Bool). T (not b)) (sym (nan_bits_is binary64 r ∙ ap is_nan (written n r R))) (number (root_of_units n) (R.q * 2 ^ R.k) (root_units n R.q R.k R.between))
   where
     number : (v : Float) (a : ℕ) → Units v a → T (not (is_nan v))
+    number nan a h = elim h [ ]
+    number (inf _) a h = elim h [ ]
     number (fin s m e) a h = tt

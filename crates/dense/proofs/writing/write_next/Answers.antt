@@ -1,0 +1,5 @@
+-- `write_next` walks on, and puts what it finds there.
+use Rattle.dense.proofs.writing.write_next.Goals as goal
+
+pub returns : goal.returns
+returns c = (c.walk_on-at.ensures, rw (c.store.ensures, c.value.ensures, c.walk_on-at.ensures))
