@@ -35,7 +35,10 @@ class Walk:
             if m and k:
                 self.args[f"{m[1]}.{m[2]}"] = k[2]
         self.arms = {row[0]: arm for row, arm in zip(info["places"], info["arms"]) if arm}
+        self.clauses = {row[0]: c for row, c in zip(info["places"], info["clauses"]) if c}
+        self.pre = info["pre"]["fields"] if isinstance(info["pre"], dict) else info["pre"]
         self.helpers = {}
+        self.typed_rows = {row[0]: t for row, t in zip(info["places"], info["typed"])}
         self.typed = {row[0]: bool(t) for row, t in zip(info["places"], info["typed"])}
         self.asked = {new for _, new in info["asked_at"]}
         self.by_plain = {}
@@ -96,7 +99,36 @@ def arguments(text):
 
 
 def bare_name(name):
-    return plain(name[: -len("_lem")] if name.endswith("_lem") else name)
+    return plain(name[: -len("_lem")] if name.endswith("_lem") else name).lower()
+
+
+def record_of(term, fields):
+    """The tuple that ends a term, as a record."""
+    end = term.rstrip()
+    if not end.endswith(")"):
+        return term
+    depth, i = 0, len(end) - 1
+    while True:
+        depth += {")": 1, "(": -1}.get(end[i], 0)
+        if depth == 0:
+            break
+        i -= 1
+    before = end[:i].rstrip()
+    if before and not before.endswith(" in") and not before.endswith("\nin"):
+        return term
+    parts, depth, now = [], 0, ""
+    for ch in end[i + 1 : -1]:
+        depth += {"(": 1, "{": 1, "[": 1, ")": -1, "}": -1, "]": -1}.get(ch, 0)
+        if ch == "," and depth == 0:
+            parts.append(now)
+            now = ""
+        else:
+            now += ch
+    if now.strip():
+        parts.append(now)
+    if len(parts) != len(fields):
+        return term
+    return end[:i] + "record { " + "; ".join(f"{f} = {x.strip()}" for f, x in zip(fields, parts)) + " }"
 
 
 def follow(walk, place, fields):
@@ -116,23 +148,31 @@ def follow(walk, place, fields):
         f = MADE.get(f, f)
         if rest and f"{f}.{rest[0]}" in walk.args:
             rest[0] = walk.args[f"{f}.{rest[0]}"]
+        if f == "requires" and walk.pre and rest and rest[0].isdigit():
+            rest[0] = walk.pre[int(rest[0])]
         return n, [f] + rest, None
     def above(q):
         while q is not None:
             yield q
             q = walk.parent.get(q)
 
-    for which, same in ((0, lambda x: plain(x) == plain(f)), (0, lambda x: plain(x) == bare_name(f)), (1, lambda x: plain(x) == plain(f))):
+    for which, same in ((0, lambda x: plain(x) == plain(f)), (0, lambda x: plain(x).lower() == bare_name(f)), (1, lambda x: plain(x) == plain(f))):
         for q in [*above(place), *above(start)]:
             name = walk.field[q][which]
             if name and same(name):
                 new = walk.field[q][1]
-                arm = walk.arms.get(q)
-                if arm:
-                    for fresh, old, sub in sorted(arm[2], key=lambda r: -len(r[2])):
-                        if rest[: len(sub)] == sub:
-                            rest = [fresh] + rest[len(sub):]
-                            break
+                arms = [walk.arms[p] for p in [q, *above(start)] if p in walk.arms]
+                rows = [(arm[0], *row) for arm in arms for row in arm[2] if plain(row[1]) == plain(walk.field[q][0])]
+                for label, fresh, _, sub in sorted(rows, key=lambda r: -len(r[3])):
+                    if rest[: len(sub)] == sub:
+                        return n, [label, fresh] + rest[len(sub):], None
+                if rest[:1] == ["given"]:
+                    for name, step in walk.typed_rows.get(start, []):
+                        if plain(step) == plain(walk.field[q][0]):
+                            return n, ["type_inv", name] + rest[1:], None
+                clause = walk.clauses.get(q)
+                if clause and len(rest) > 1 and rest[0] == "ensures" and rest[1].isdigit() and int(rest[1]) < len(clause["fields"]):
+                    rest[1] = clause["fields"][int(rest[1])]
                 return n, [new] + rest, None
     return n, [f] + rest, None
 
@@ -266,6 +306,7 @@ def turn(crate, function, info):
             renamed[arg] = f"{kind}-{new}"
             invariants.append((arg, kind, new, names, info["changed"][k]))
     answers, inline = {}, []
+    asked = {new: info["asked"][old] for old, new in needs if old in info["asked"]}
     for (old, new), (at_old, _), arg in zip(needs, info["asked_at"], given[2 * len(loops):]):
         if re.fullmatch(r"[^\s()]+", arg):
             answers.setdefault(arg, []).append((new, at_old))
@@ -320,6 +361,8 @@ def turn(crate, function, info):
                     continue
                 env = {params[0]: at} if params else {}
                 term = body_of(walk, type_names(walk, term), env, renamed)
+                if new in asked:
+                    term = record_of(term, asked[new])
                 first = params[0] if params else "c"
                 files["Answers"].append("\n".join(notes + [f"pub {new} : goal.{new}"] + unfolding + [f"{new} {first} ={term}"]))
             continue
@@ -338,7 +381,7 @@ def turn(crate, function, info):
     for new, at, arg in inline:
         m = re.fullmatch(r"\(λ (\S+)(?: [^.]*)?\.\s((?:.|\n)*)\)", arg)
         if m:
-            files["Answers"].append(f"pub {new} : goal.{new}{opened}\n{new} {m[1]} = " + body_of(walk, type_names(walk, m[2]), {m[1]: at}, renamed))
+            files["Answers"].append(f"pub {new} : goal.{new}{opened}\n{new} {m[1]} = " + record_of(body_of(walk, type_names(walk, m[2]), {m[1]: at}, renamed), asked.get(new, [])))
         else:
             files["Answers"].append(f"pub {new} : goal.{new}{opened}\n{new} = " + body_of(walk, type_names(walk, arg), {}, renamed))
     for kind, its in files.items():

@@ -7,7 +7,7 @@ use Rattle.run.specs.declared.waiting.Stage.{Stage}
 use Rattle.run.specs.declared.waiting.Stage.TheVariants.{First, Second, Third, Fourth}
 use Rattle.run.specs.declared.waiting.Waiting.{Waiting}
 use Rattle.run.specs.declared.waiting.Waiting.TheVariants.{Epoch, Forward, Backward, Survey, Pass, Step, Tail, TailSample, Ended, Unknown}
-use Rattle.run.specs.Waiting.{stage_number, mark_at, stage_from, waiting_at, waits_at}
+use Rattle.run.specs.Waiting.{mark_at, stage_from, waiting_at, waits_at}
 
 -- a stage that is none of the first three
 pub fourth : (n : ℕ) → n ≢ 0 → n ≢ 1 → n ≢ 2 → Fourth ≡ stage_from n

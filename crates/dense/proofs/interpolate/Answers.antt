@@ -5,10 +5,10 @@ use Rattle.dense.proofs.interpolate.Goals as goal
 
 pub returns-in-Refused : goal.returns-in-Refused
 unfolding interpolated unless
-returns-in-Refused c = (sym c.told-1.is ∙ c.judge-told.ensures, rw (← c.judge-told.ensures, c.told-1.is))
+returns-in-Refused c = record { value = sym c.in-Refused.is ∙ c.judge-told.ensures; out_after = rw (← c.judge-told.ensures, c.in-Refused.is) }
 
 pub returns-in-Written : goal.returns-in-Written
 unfolding interpolated unless
 returns-in-Written c =
     let past = c in
-    (sym c.enum_told-1.is ∙ past.judge-told.ensures, rw (← past.judge-told.ensures, c.enum_told-1.is, c.store.ensures, c.value.ensures, c.interval_of-k.ensures))
+    record { value = sym c.in-Written.is ∙ past.judge-told.ensures; out_after = rw (← past.judge-told.ensures, c.in-Written.is, c.store.ensures, c.value.ensures, c.interval_of-k.ensures) }

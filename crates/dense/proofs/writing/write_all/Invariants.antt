@@ -1,6 +1,6 @@
 -- `write_all` is `written_all`: what is left to do here leaves what the whole leaves.
 use Prim.Native.Nat.{◌-◌}
-use mathlib.Core.Path.{◌≡◌, ◌∙◌}
+use mathlib.Core.Path.{◌≡◌}
 use lib.ListN.{length, drop}
 use Rattle.dense.specs.Interpolation.{written_all}
 use Rattle.dense.proofs.writing.write_all.Given as goal

@@ -2,4 +2,4 @@
 use Rattle.dense.proofs.writing.write_next.Goals as goal
 
 pub returns : goal.returns
-returns c = (c.walk_on-at.ensures, rw (c.store.ensures, c.value.ensures, c.walk_on-at.ensures))
+returns c = record { value = c.walk_on-at.ensures; out_after = rw (c.store.ensures, c.value.ensures, c.walk_on-at.ensures) }

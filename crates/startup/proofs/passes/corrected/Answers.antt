@@ -5,4 +5,4 @@ use Rattle.startup.proofs.passes.corrected.Goals as goal
 
 pub returns : goal.returns
 unfolding pass_places state_at
-returns c = simp (c.across-v.ensures, c.across-r.ensures, c.Points-on.ensures, c.points_back-b.ensures, c.at_epoch-sums.ensures, c.state_at-epoch.ensures)
+returns c = simp (c.across-v.ensures, c.across-r.ensures, c.points_on-f.ensures, c.points_back-b.ensures, c.at_epoch-sums.ensures, c.state_at-epoch.ensures)
