@@ -38,6 +38,7 @@ class Walk:
         self.clauses = {row[0]: c for row, c in zip(info["places"], info["clauses"]) if c}
         self.pre = info["pre"]["fields"] if isinstance(info["pre"], dict) else info["pre"]
         self.helpers = {}
+        self.facts = {row[0]: dict(row[4]) for row in info["places"] if row[4]}
         self.typed_rows = {row[0]: t for row, t in zip(info["places"], info["typed"])}
         self.typed = {row[0]: bool(t) for row, t in zip(info["places"], info["typed"])}
         self.asked = {new for _, new in info["asked_at"]}
@@ -166,6 +167,8 @@ def follow(walk, place, fields):
                 for label, fresh, _, sub in sorted(rows, key=lambda r: -len(r[3])):
                     if rest[: len(sub)] == sub:
                         return n, [label, fresh] + rest[len(sub):], None
+                if rest and rest[0] in walk.facts.get(q, {}):
+                    rest[0] = walk.facts[q][rest[0]]
                 if rest[:1] == ["given"]:
                     for name, step in walk.typed_rows.get(start, []):
                         if plain(step) == plain(walk.field[q][0]):
@@ -202,6 +205,9 @@ def body_of(walk, text, env, renamed):
                 else:
                     out.append(f"let {m[3]} = {'.'.join([path[0]] + fields)} in")
                     env.pop(m[3], None)
+                    clause = [c for q, c in walk.clauses.items() if walk.field[q][1] == fields[0]]
+                    if len(fields) == 2 and fields[1] == "ensures" and clause:
+                        renamed = renamed | {f"{m[3]}.{i}": f"{m[3]}.{f}" for i, f in enumerate(clause[0]["fields"])}
                 continue
             out.append(f"let {m[3]} = {turned(walk, m[4], env, renamed)} in")
             continue
@@ -281,6 +287,22 @@ def type_names(walk, text):
     return "".join(out)
 
 
+def kept_binders(term, mapping):
+    """A name that a λ binds is the λ's own up to the parenthesis that ends it."""
+    for m in list(re.finditer(r"\(λ \(?([^\s():]+)", term))[::-1]:
+        if m[1] not in mapping:
+            continue
+        depth, k = 0, m.start()
+        while True:
+            depth += {"(": 1, ")": -1}.get(term[k], 0)
+            k += 1
+            if depth == 0:
+                break
+        inner = re.sub(rf"(?<![^\s(){{}}\[\],;]){re.escape(m[1])}(?![^\s(){{}}\[\],;.:])", "§" + m[1], term[m.start() : k])
+        term = term[: m.start()] + inner + term[k:]
+    return term
+
+
 def turn(crate, function, info):
     folder = f"crates/{crate}/proofs/{function.replace('.', '/')}"
     path = f"{folder}/Proof.antt"
@@ -339,8 +361,9 @@ def turn(crate, function, info):
             order = [f"l.initial.{v}" if ch else f"l.{v}" for v, ch in zip(names, changed)] + [f"l.{v}" for v, ch in zip(names, changed) if ch]
             mapping = dict(zip(params, order)) if len(params) == len(order) else {}
             mapping.pop("_", None)
-            term = body[clause.end():]
+            term = kept_binders(body[clause.end():], mapping)
             term = re.sub(r"[^\s(){}\[\],;@\"«».]+", lambda m: mapping.get(m[0], m[0]) if m.start() == 0 or term[m.start() - 1] != "." else m[0], term)
+            term = term.replace("§", "")
             notes = [x for x in lines if x.startswith("--")]
             unfolding = [x for x in lines if x.startswith("unfolding")]
             label = f"{kind}-{new}"
@@ -388,7 +411,7 @@ def turn(crate, function, info):
         if not its:
             continue
         # a test of not b tells of b itself now
-        its[:] = [re.sub(r"\bnot-(?:true|false) (?:[^\s()]+|\([^()]*\)) ([^\s(),]*if-not-[^\s(),]*\.(?:true|false))", r"\1", it) for it in its]
+        its[:] = [re.sub(r"\bnot-(?:true|false) (?:[^\s()]+|\([^()]*\)) ([^\s(),]*\.(?:true|false))-raw", r"\1", it) for it in its]
         target = f"{folder}/{kind}.antt"
         needed = list(uses)
         body = "\n\n".join(its)

@@ -1,0 +1,8 @@
+-- `word_at` is `word_at`.
+use Rattle.std.proofs.Common.{rules}
+use Rattle.blocks.specs.Blocks.{word_at}
+use Rattle.blocks.proofs.reading.word_at.Goals as goal
+
+pub returns : goal.returns
+unfolding word_at
+returns c = search rules

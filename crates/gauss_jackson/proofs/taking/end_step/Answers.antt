@@ -1,0 +1,15 @@
+-- `end_step` is `step_ended`.
+use Rattle.gauss_jackson.specs.Answers.{step_ended}
+use Rattle.gauss_jackson.proofs.Sampling.{no_room, stored_one}
+use Rattle.gauss_jackson.proofs.taking.end_step.Goals as goal
+
+pub returns-then-not-has_place : goal.returns-then-not-has_place
+unfolding step_ended
+returns-then-not-has_place c = no_room _ _ _ _ _ _ _ _ c.wants_samples-wanted.ensures c.has_place.ensures _ (c.if-not-has_place.true) c.end.ensures
+
+pub returns : goal.returns
+unfolding step_ended
+returns c =
+    let past = c in
+    let far = past in
+    rw (← past.step_sample.ensures, ← c.onward.ensures) (stored_one _ _ _ _ _ _ _ _ far.wants_samples-wanted.ensures far.has_place.ensures _ _ (far.if-not-has_place.false) c.keep_sample.ensures c.tell_stored.ensures)

@@ -1,0 +1,15 @@
+-- `take_last` is `last_taken`.
+use Rattle.gauss_jackson.specs.Answers.{last_taken}
+use Rattle.gauss_jackson.proofs.Sampling.{no_room, stored_one}
+use Rattle.gauss_jackson.proofs.taking.take_last.Goals as goal
+
+pub returns-then-not-has_place : goal.returns-then-not-has_place
+unfolding last_taken
+returns-then-not-has_place c = no_room _ _ _ _ _ _ _ _ c.wants_samples-wanted.ensures c.has_place.ensures _ (c.if-not-has_place.true) c.end.ensures
+
+pub returns : goal.returns
+unfolding last_taken
+returns c =
+    let past = c in
+    let far = past in
+    rw (← past.last_sample.ensures, ← c.solution_of.ensures, ← c.end-done.ensures) (stored_one _ _ _ _ _ _ _ _ far.wants_samples-wanted.ensures far.has_place.ensures _ _ (far.if-not-has_place.false) past.keep_sample.ensures c.tell_stored.ensures)

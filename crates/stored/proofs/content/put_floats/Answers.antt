@@ -1,0 +1,18 @@
+-- `put_floats`: triple after triple.
+use borrow.Author.Rules.{rules}
+use mathlib.Core.Path.{◌≡◌, refl}
+use Prim.Native.Nat.{◌*◌}
+use native.Mathlib.Omega.{arith}
+use Rattle.blocks.specs.Rows.{filled_from}
+use Rattle.stored.proofs.Parts.{six_floats}
+use Rattle.stored.proofs.content.put_floats.Goals as goal
+
+pub loop-q-init : goal.loop-q-init
+unfolding filled_from
+loop-q-init c = (search rules, refl)
+
+pub loop-q-preserved : goal.loop-q-preserved
+loop-q-preserved c = let past = c in let earlier = past in let h = six_floats earlier.args.u earlier.args.floats earlier.loop-q.q earlier.args.content.now in (search rules, cc)
+
+pub returns : goal.returns
+returns c = let e : 6 * c.loop-q.q ≡ 246 = omega arith in cc

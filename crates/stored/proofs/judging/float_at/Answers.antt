@@ -1,0 +1,7 @@
+-- `float_at`.
+use Rattle.stored.specs.Taken.{float_at}
+use Rattle.stored.proofs.judging.float_at.Goals as goal
+
+pub returns : goal.returns
+unfolding float_at
+returns c = simp (c.float_of.ensures, c.wide-2.ensures.0, c.wide.ensures.0)
