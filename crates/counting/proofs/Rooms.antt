@@ -21,7 +21,7 @@ use Rattle.plan.specs.declared.Verdict.TheVariants.{Fine, Refuse}
 use Rattle.plan.specs.Plan.{plan_of}
 use Rattle.plan.specs.Verdict.{verdict_on}
 use Rattle.run.specs.Limits.{numbering}
-use Rattle.run.specs.Samples.{Room, tens, is_placed, has_room, put_all}
+use Rattle.run.specs.Samples.{Room, is_placed, has_room, put_all}
 use Rattle.run.proofs.Placing.{room_within}
 use Rattle.rules.specs.Rules.{Course, asks, stores, ends, exceeds, integrate}
 use Rattle.rules.specs.Asked.{due, AsListed}

@@ -5,7 +5,7 @@ use native.Mathlib.Omega.{arith}
 use mathlib.Core.Bool.{Bool, true, false, cond}
 use mathlib.Core.List.{List}
 use lib.Dec.{eqb, ltb}
-use lib.ListN.{length, get_or, set, replicate}
+use lib.ListN.{length, get_or, set}
 use lib.Seq.{ext_get_or, get_or-set_other}
 use lib.Ieee.{Float, binary64, to_bits}
 use borrow.Author.Tests.{lt-ltb, le-ltb, ltb-true, ltb-false}

@@ -1,5 +1,5 @@
 -- Storing a loaded form gives the same bytes.
-use mathlib.Core.Path.{◌≡◌, refl, sym, ◌∙◌, ap}
+use mathlib.Core.Path.{◌≡◌, refl, ◌∙◌, ap}
 use Prim.Native.Nat.{ℕ, ◌+◌, ◌*◌, ◌/◌, ◌%◌, ◌^◌, ◌≤◌, ◌<◌}
 use native.Mathlib.Omega.{arith}
 use mathlib.Core.Bool.{Bool, true, false}
@@ -7,16 +7,13 @@ use lib.Dec.{ltb}
 use mathlib.Core.List.{List}
 use lib.ListN.{length, get_or, get_or-eq_default}
 use borrow.Author.Tests.{eq-eqb, ltb-true, ltb-false}
-use Rattle.run.specs.declared.Run.{Run}
 use Rattle.blocks.specs.Rows.{row}
 use Rattle.blocks.specs.Blocks.{word_at, content_at, content_of, written, form}
 use Rattle.blocks.specs.Trips.{Below}
 use Rattle.blocks.proofs.Filled.{length_row, at_row}
 use Rattle.blocks.proofs.Trips.{read_is_written}
-use Rattle.stored.specs.Content.{content_of_run}
-use Rattle.stored.specs.Taken.{run_of}
-use Rattle.stored.specs.Stored.{storing, stored_in, loaded}
-use Rattle.stored.specs.Trips.{quieted, StoredAgain, LoadedIsStored}
+use Rattle.stored.specs.Stored.{storing, stored_in}
+use Rattle.stored.specs.Trips.{quieted, LoadedIsStored}
 use Rattle.stored.proofs.Known.{known}
 use Rattle.stored.proofs.Again.{content_again}
 use Rattle.stored.proofs.Opened.{opened}

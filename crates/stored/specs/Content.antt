@@ -10,7 +10,7 @@
 --     6 to 251   the 123 floats of `Layout`, each by its bits: the lower word, then the upper
 --     252 to 257 max_corrector_iters, max_startup_iters, max_steps, the startup passes, the steps, the accepted answers
 --     258 to 503 nothing
-use Rattle.std.specs.Prelude.{ℕ, ◌+◌, ◌-◌, ◌*◌, ◌/◌, ◌%◌, ◌^◌, cond, List, [], ◌∷◌, eqb, ltb, get_or}
+use Rattle.std.specs.Prelude.{ℕ, ◌-◌, ◌/◌, ◌%◌, ◌^◌, cond, List, [], ◌∷◌, eqb, ltb, get_or}
 use Rattle.std.specs.Float.{binary64}
 use Rattle.std.specs.Float.Ieee.{to_bits}
 use Rattle.triple.specs.declared.Triple.{Triple}

@@ -62,6 +62,8 @@ add_whole {x} {y} {p} {q} {p'} {q'} X Y h k =
 
 neg_value : (x : Float) (s : Bool) (n : ℕ) → HasValue x s n 1 → HasValue (neg x) (not s) n 1
 unfolding neg
+neg_value nan s n h = elim h [ ]
+neg_value (inf _) s n h = elim h [ ]
 neg_value (fin t m e) s n h = (ap not h.0, h.1)
 
 pub neg_whole : {x : Float} {p q : ℕ} → Is x p q → Is (neg x) q p
@@ -183,6 +185,8 @@ one_whole = of_round false 1 1 0 (lit≤ tt) refl
 
 absolute_value : (x : Float) (s : Bool) (n : ℕ) → HasValue x s n 1 → HasValue (absolute x) false n 1
 unfolding absolute
+absolute_value nan s n h = elim h [ ]
+absolute_value (inf _) s n h = elim h [ ]
 absolute_value (fin t m e) s n h = (refl, h.1)
 
 absolute_fits : (x : Float) → T (fits binary64 x) → T (fits binary64 (absolute x))

@@ -7,7 +7,7 @@ use mathlib.Core.Bool.{Bool, true, false, ◌&&◌}
 use lib.IntN.{ℤ, negsuc}
 use lib.Dec.{T, ltb, lt→ltb, ltb→lt, lit<}
 use lib.Arith.{le→nltb}
-use lib.Ieee.{Float, inf, fin, Format, binary64, up, down, unlike, round, below, neg, sub, mul, lt, le}
+use lib.Ieee.{nan, inf, Float, fin, Format, binary64, up, down, unlike, round, below, neg, sub, mul, lt, le}
 use lib.Ieee.Fits.{down_pos}
 use lib.Ieee.Exact.{HasValue}
 use lib.Ieee.Order.{round_mono}
@@ -37,6 +37,8 @@ half_round = refl
 -- a constant times a whole number
 pub mul_by : (f : Format) (s : Bool) (c : ℕ) (e : ℤ) (y : Float) (t : Bool) (b : ℕ) → HasValue y t b 1 → mul f (fin s c e) y ≡ round f (unlike s t) (c * up e * b) (down e)
 unfolding mul
+mul_by f s c e nan t b k = elim k [ ]
+mul_by f s c e (inf _) t b k = elim k [ ]
 mul_by f s c e (fin v n d) t b k =
     ap (λ (z : Bool). round f (unlike s z) (c * up e * (n * up d)) (down e * down d)) k.0
     ∙ ap (λ (z : ℕ). round f (unlike s t) (c * up e * z) (down e * down d)) (sym (mul-one (n * up d)) ∙ k.1)
@@ -53,6 +55,9 @@ half_test (suc m) N de dd E D h =
 -- D is a whole number, P lies from 0 to a half: D < -P exactly if D is negative
 below_half : (D : Float) (s : Bool) (m : ℕ) (P : Float) → HasValue D s m 1 → Clear P → T (le P half) → lt D (neg P) ≡ (s && ltb 0 m)
 unfolding le neg
+below_half nan s m P v c h = elim v [ ]
+below_half (inf _) s m P v c h = elim v [ ]
+below_half (fin u k e) s m nan v c h = elim c [ ]
 below_half (fin u k e) s m (inf true) v c h = absurd c
 below_half (fin u k e) s m (inf false) v c h = absurd h
 below_half (fin u k e) s m (fin true n d) v c h = absurd c

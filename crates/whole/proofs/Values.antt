@@ -22,6 +22,10 @@ right n e d b h = left n d e b h ∙ ap (λ (x : ℕ). b * x) (mul_comm (down d)
 
 pub add_is : (f : Format) (x y : Float) (s : Bool) (a : ℕ) (t : Bool) (b : ℕ) → HasValue x s a 1 → HasValue y t b 1 → add f x y ≡ sum f s a t b 1
 unfolding add
+add_is f nan y s a t b h k = elim h [ ]
+add_is f (inf _) y s a t b h k = elim h [ ]
+add_is f (fin u m e) nan s a t b h k = elim k [ ]
+add_is f (fin u m e) (inf _) s a t b h k = elim k [ ]
 add_is f (fin u m e) (fin v n d) s a t b h k =
     ap (λ (z : Bool). sum f z (m * up e * down d) v (n * up d * down e) (down e * down d)) h.0
     ∙ ap (λ (z : Bool). sum f s (m * up e * down d) z (n * up d * down e) (down e * down d)) k.0
@@ -31,6 +35,10 @@ add_is f (fin u m e) (fin v n d) s a t b h k =
 
 pub mul_is : (f : Format) (x y : Float) (s : Bool) (a : ℕ) (t : Bool) (b : ℕ) → HasValue x s a 1 → HasValue y t b 1 → mul f x y ≡ round f (unlike s t) (a * b) 1
 unfolding mul
+mul_is f nan y s a t b h k = elim h [ ]
+mul_is f (inf _) y s a t b h k = elim h [ ]
+mul_is f (fin u m e) nan s a t b h k = elim k [ ]
+mul_is f (fin u m e) (inf _) s a t b h k = elim k [ ]
 mul_is f (fin u m e) (fin v n d) s a t b h k =
     ap (λ (z : Bool). round f (unlike z v) (m * up e * (n * up d)) (down e * down d)) h.0
     ∙ ap (λ (z : Bool). round f (unlike s z) (m * up e * (n * up d)) (down e * down d)) k.0
@@ -45,6 +53,10 @@ size_pos n d b h B = not_T (eqb n 0) (λ (t : T (eqb n 0)). lt_irrefl 0 (subst (
 
 pub div_is : (f : Format) (x y : Float) (s : Bool) (a : ℕ) (t : Bool) (b : ℕ) → HasValue x s a 1 → HasValue y t b 1 → 0 < b → div f x y ≡ round f (unlike s t) a b
 unfolding div
+div_is f nan y s a t b h k B = elim h [ ]
+div_is f (inf _) y s a t b h k B = elim h [ ]
+div_is f (fin u m e) nan s a t b h k B = elim k [ ]
+div_is f (fin u m e) (inf _) s a t b h k B = elim k [ ]
 div_is f (fin u m e) (fin v n d) s a t b h k B =
     cond_no (eqb n 0) (cond (eqb m 0) nan (inf (unlike u v))) (round f (unlike u v) (m * up e * down d) (n * up d * down e)) (size_pos n d b k.1 B)
     ∙ ap (λ (z : Bool). round f (unlike z v) (m * up e * down d) (n * up d * down e)) h.0
@@ -55,6 +67,10 @@ div_is f (fin u m e) (fin v n d) s a t b h k B =
 
 pub lt_is : (x y : Float) (s : Bool) (a : ℕ) (t : Bool) (b : ℕ) → HasValue x s a 1 → HasValue y t b 1 → lt x y ≡ below s a t b
 unfolding lt
+lt_is nan y s a t b h k = elim h [ ]
+lt_is (inf _) y s a t b h k = elim h [ ]
+lt_is (fin u m e) nan s a t b h k = elim k [ ]
+lt_is (fin u m e) (inf _) s a t b h k = elim k [ ]
 lt_is (fin u m e) (fin v n d) s a t b h k =
     ap (λ (z : Bool). below z (m * up e * down d) v (n * up d * down e)) h.0
     ∙ ap (λ (z : Bool). below s (m * up e * down d) z (n * up d * down e)) k.0
@@ -64,6 +80,10 @@ lt_is (fin u m e) (fin v n d) s a t b h k =
 
 pub eq_is : (x y : Float) (s : Bool) (a : ℕ) (t : Bool) (b : ℕ) → HasValue x s a 1 → HasValue y t b 1 → eq x y ≡ level s a t b
 unfolding eq
+eq_is nan y s a t b h k = elim h [ ]
+eq_is (inf _) y s a t b h k = elim h [ ]
+eq_is (fin u m e) nan s a t b h k = elim k [ ]
+eq_is (fin u m e) (inf _) s a t b h k = elim k [ ]
 eq_is (fin u m e) (fin v n d) s a t b h k =
     ap (λ (z : Bool). level z (m * up e * down d) v (n * up d * down e)) h.0
     ∙ ap (λ (z : Bool). level s (m * up e * down d) z (n * up d * down e)) k.0

@@ -1,5 +1,4 @@
 -- `content_from` by its parts.
-use mathlib.Core.Path.{◌≡◌, ◌∙◌}
 use Prim.Native.Nat.{ℕ, ◌<◌}
 use lib.ListN.{replicate, length-replicate, get_or-replicate}
 use Rattle.stored.proofs.Parts.{all_parts}
