@@ -1,6 +1,6 @@
 -- How far two whole numbers lie apart: the difference of the floats is exact, and so is its whole part.
 use Rattle.std.proofs.Common.{◌≡◌, ℕ, ◌+◌, ◌-◌, ◌*◌, ◌/◌, ◌^◌, ◌<◌, ◌≤◌, min, Bool, true, false, cond, T, ℤ, pos, ◌-ℤ◌, neg_ℤ, nat_abs, sym, refl, ap, ◌∙◌, subst, mul-div_cancel, arith, lt→ltb}
-use lib.Ieee.{Float, fin, binary64, up, down, sub, fits, to_unsigned}
+use lib.Ieee.{nan, inf, Float, fin, binary64, up, down, sub, fits, to_unsigned}
 use lib.Ieee.Fits.{down_pos}
 use lib.Ieee.Exact.{HasValue}
 use Rattle.triple.specs.Size.{absolute}
@@ -73,6 +73,8 @@ is_cut {x} n X h = go x X.sign X.size X.value X.diff
     pick t false m k d u p e f = let l : k ≡ n = omega arith in ap (λ (b : Bool). cond b 0 (min (m / d) (2 ^ 64 - 1))) u ∙ cut m k d p e (omega arith) ∙ l
 
     go : (x : Float) (s : Bool) (k : ℕ) → HasValue x s k 1 → Diff s k n 0 → to_unsigned 64 x ≡ n
+    go nan s k v d = elim v [ ]
+    go (inf _) s k v d = elim v [ ]
     go (fin t m e) s k v d = pick t s (m * up e) k (down e) v.0 (down_pos e) v.1 d
 
 -- ---- the same, of what the code holds

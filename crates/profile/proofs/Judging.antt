@@ -65,6 +65,8 @@ unfolding of_int eq
 eq_cut m e n h = go (round binary64 false n 1) (round_whole binary64 false n h)
   where
     go : (y : Float) → HasValue y false n 1 → eq y (fin false m e) ≡ eqb (n * down e) (m * up e) && true
+    go nan v = elim v [ ]
+    go (inf _) v = elim v [ ]
     go (fin t k d) v =
         let w = v.1 in
         ap (λ (b : Bool). level b (k * up d * down e) false (m * up e * down d)) v.0

@@ -85,6 +85,8 @@ unfolding has_no_fraction whole_of
 passes x z X = go x X.sign X.size X.value (number_is X.sign X.size z X.diff)
   where
     go : (x : Float) (s : Bool) (n : ℕ) → HasValue x s n 1 → cond s (neg_ℤ (pos n)) (pos n) ≡ z → (has_no_fraction x ≡ true) × (whole_of x ≡ z)
+    go nan s n v k = elim v [ ]
+    go (inf _) s n v k = elim v [ ]
     go (fin t m e) s n v k =
         let g : m * up e ≡ n * down e = (let w = v.1 in omega arith) in
         let q : m * up e / down e ≡ n = ap (λ (i : ℕ). i / down e) g ∙ mul-div_cancel n (down_pos e) in

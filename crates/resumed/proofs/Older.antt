@@ -1,7 +1,7 @@
 -- Older forms: what is told after any events is told to the calls that count.
 use mathlib.Core.Path.{◌≡◌, refl, sym, ◌∙◌, ap}
 use Prim.Native.Nat.{ℕ, zero, suc}
-use mathlib.Core.Bool.{true, false, cond, false≢true}
+use mathlib.Core.Bool.{true, cond, false≢true}
 use mathlib.Core.List.{List, [], ◌∷◌, ◌++◌, map}
 use lib.ListN.{get_or}
 use Rattle.rules.specs.Walk.{Call, Result, Line, open_at, over, called, walk, begin}
