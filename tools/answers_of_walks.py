@@ -144,7 +144,9 @@ def follow(walk, place, fields):
     if not fields:
         return n, [], place
     f = fields[0]
-    rest = [MADE.get(x, x) for x in fields[1:]]
+    rest = list(fields[1:]) if f == "args" or plain(f).startswith("loop") and not f.endswith("test") else [MADE.get(x, x) for x in fields[1:]]
+    if f.startswith("loop") and rest[:1] == ["inv"]:
+        rest[0] = "invariant"
     if f in ROOTS or MADE.get(f) in ROOTS:
         f = MADE.get(f, f)
         if rest and f"{f}.{rest[0]}" in walk.args:

@@ -14,12 +14,12 @@ use Rattle.triple.specs.declared.Sample.{Sample}
 use Rattle.triple.specs.Sampled.{sample_width}
 use Rattle.plan.specs.declared.Plan.{Plan}
 use Rattle.run.specs.Limits.{numbering}
-use Rattle.run.specs.Samples.{Room, tens, numbers_of, is_placed, has_room, put_all}
+use Rattle.run.specs.Samples.{tens, numbers_of, is_placed, has_room, put_all}
 use Rattle.run.proofs.Placing.{placed_is, same_room, room_within}
 use Rattle.gauss_jackson.specs.Answers.{Given, ending, answered}
 use Rattle.rules.specs.Rules.{asks}
 use Rattle.rules.specs.Asked.{due}
-use Rattle.rules.specs.Walk.{question, refused, told, Line, open_at, Stop, settle, called}
+use Rattle.rules.specs.Walk.{refused, Line, open_at, Stop, settle, called}
 use Rattle.rules.proofs.Rest.{seen}
 use Rattle.rules.proofs.Calls.{call_is}
 use Rattle.counting.specs.Paths.{Claims}

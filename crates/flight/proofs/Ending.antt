@@ -9,9 +9,7 @@ use mathlib.Core.List.{List, [], ◌∷◌}
 use lib.ListN.{length}
 use lib.Ieee.{Float}
 use borrow.Author.Tests.{lt-ltb}
-use Rattle.triple.specs.declared.Triple.{Triple}
 use Rattle.triple.specs.Sampled.{sample_width}
-use Rattle.plan.specs.declared.Settings.{Settings}
 use Rattle.plan.specs.declared.Plan.{Plan}
 use Rattle.run.specs.declared.Run.{Run}
 use Rattle.run.specs.Limits.{ample}
@@ -26,7 +24,7 @@ use Rattle.flight.specs.declared.Flight.{Flight}
 use Rattle.flight.specs.Flight.{taken_off, beyond, is_ready, flown_on}
 use Rattle.flight.specs.Story.{Story, story_of}
 use Rattle.flight.specs.Told.{flown_through}
-use Rattle.flight.specs.Ends.{Fifty, EndsTold, AlwaysEnds}
+use Rattle.flight.specs.Ends.{Fifty, AlwaysEnds}
 use Rattle.flight.proofs.Tales.{Open, Tells, Goes}
 use Rattle.flight.proofs.Telling.{turn, piece_goes, call_goes, claims, plan, start_tells, tells_the_story}
 

@@ -19,7 +19,7 @@ use Rattle.gauss_jackson.specs.declared.Outcome.{Outcome}
 use Rattle.gauss_jackson.specs.declared.Outcome.TheVariants.{Ask, Done, Refused}
 use Rattle.rules.specs.Rules.{Course, asks}
 use Rattle.rules.specs.Asked.{due, AsListed}
-use Rattle.rules.specs.Walk.{Said, question, told, open_at, Stop}
+use Rattle.rules.specs.Walk.{Said, told, open_at, Stop}
 use Rattle.rules.proofs.Rest.{line_of}
 use Rattle.rules.proofs.Open.{is_asked}
 use Rattle.counting.specs.Paths.{Claims, Always}
