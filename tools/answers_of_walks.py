@@ -222,6 +222,9 @@ def body_of(walk, text, env, renamed):
 def turned(walk, word, env, renamed, helper=None):
     if word in renamed:
         return renamed[word]
+    head = re.match(r"([^.]+\.\d+)(\..*)", word)
+    if head and head[1] in renamed:
+        return renamed[head[1]] + head[2]
     path = word.split(".")
     if path[0] in env and (len(path) > 1 or helper):
         place = env[path[0]]

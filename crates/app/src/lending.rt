@@ -81,7 +81,8 @@ pub fn step_on(run: &mut Run, look: Look, a: Triple, from: u64, out: &mut [f64])
         out,
     );
     run.mark = done.mark;
-    run.body.a = done.a;
+    let window = done.a;
+    run.body.a = window;
     run.body.track = done.track;
     run.body.trial = done.trial;
     done.reply

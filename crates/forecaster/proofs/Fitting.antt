@@ -10,13 +10,11 @@ use lib.Ieee.{Float}
 use borrow.Author.Tests.{ltb-true, ltb-false}
 use Rattle.run.specs.Samples.{Room, tens, numbers_of}
 use Rattle.run.proofs.Placing.{placed_is, length_put}
-use Rattle.refusals.specs.declared.Refusal.TheVariants.{TooLow}
-use Rattle.gauss_jackson.specs.declared.Outcome.TheVariants.{Refused}
-use Rattle.gauss_jackson.specs.Answers.{ending, answered}
+use Rattle.gauss_jackson.specs.Answers.{answered}
 use Rattle.gauss_jackson.proofs.Stores.{stored_is_written}
 use Rattle.point_mass.specs.Force.{pull_at}
 use Rattle.flight.specs.declared.Flight.{Flight}
-use Rattle.flight.specs.Flight.{Flown, landed, flight_by, flight_of, flown_after, answered_by, answered_once, beyond, is_ready, flown_by, piece, flown_on}
+use Rattle.flight.specs.Flight.{Flown, landed, flight_of, flown_after, answered_by, answered_once, beyond, is_ready, flown_by, piece, flown_on}
 use Rattle.flight.proofs.Stored.{stored_few}
 use Rattle.flight.proofs.Pieces.{ready_is}
 use Rattle.flight.proofs.Tales.{shows}
@@ -28,13 +26,13 @@ record Once (f : Flight) (numbers : List Float) (g : Flown) : Type 0 where
   same : length g.out ≡ length numbers
 
 once : (from : ℕ) (f : Flight) (numbers : List Float) → Once f numbers (answered_once from f numbers)
-unfolding answered_once answered_by flown_after flight_of flight_by ending landed
+unfolding answered_once answered_by flown_after flight_of landed
 once from f numbers = go (pull_at f.question.r).low
   where
     by : Flown
     by = answered_by (pull_at f.question.r).a from f numbers
 
-    go : (d : Bool) → Once f numbers (cond d (record { flight = flight_of f.next (ending (Refused TooLow)); out = numbers }) by)
+    go : (d : Bool) → Once f numbers (cond d (record { flight = landed f.run f.next 15; out = numbers }) by)
     go true = record { forth = omega arith; few = omega arith; same = refl }
     go false =
         let x = answered f.run f.question.number (pull_at f.question.r).a (tens from numbers) in
