@@ -2,6 +2,7 @@
 // What an app links: the whole run and the samples between, for C and for Rust. Thin over the proved functions, and proved themselves.
 // No function here depends on its caller's care beyond what a pointer needs; include/gauss_jackson.h says that, and the layouts.
 #![tactic(auto)]
+
 ghost use Rattle.std.specs.Prelude.{◌≡◌, [], ◌∷◌};
 ghost use Rattle.plan.specs.Plan.{default_settings};
 ghost use Rattle.gauss_jackson.specs.Answers.{started, answered, open_question};

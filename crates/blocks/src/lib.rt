@@ -2,6 +2,7 @@
 // The stored form as blocks (W-201): 504 words of content, to and from four blocks of 512 bytes, each with its number and its check.
 // What the content means is not known here.
 #![tactic(auto)]
+
 ghost use Rattle.std.specs.Prelude.{◌≡◌, length, ◌==◌};
 ghost use Rattle.blocks.specs.Blocks.{written, is_whole, taken};
 

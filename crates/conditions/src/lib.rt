@@ -2,6 +2,7 @@
 // The tests that the steps of a run turn on: whether one more is due, whether that is the tail, and whether a step's corrections have come to
 // rest.
 #![tactic(auto)]
+
 ghost use Rattle.std.specs.Prelude.{◌≡◌};
 ghost use Rattle.conditions.specs.Conditions.{left_at, is_due, is_tail, is_still, is_at_rest};
 ghost use Rattle.conditions.specs.Usual.{is_usual};

@@ -2,6 +2,7 @@
 // Between samples: position, velocity and acceleration at one time, or at a row of times. Both functions take any numbers and any lengths; they
 // refuse by 01's numbers, and their contracts say what every number of `out` is when they return.
 #![tactic(auto)]
+
 ghost use Rattle.std.specs.Prelude.{◌≡◌, [], ◌∷◌};
 ghost use Rattle.dense.specs.Interpolation.{judged, interpolated, batched};
 

@@ -3,6 +3,7 @@
 // which is lent is neither copied out nor put back whole. `look_at` says whether an answer goes this way; then `ask_again` or `make_step`
 // gives what changes. The theorems of `proofs/SameAnswer.antt` say that this is what `gauss_jackson::answer` does.
 #![tactic(auto)]
+
 ghost use Rattle.std.specs.Prelude.{◌≡◌};
 ghost use Rattle.fastpath.specs.Looking.{looked_at};
 ghost use Rattle.fastpath.specs.Moving.{asked_at, asked_again, track_by, stored_by, made_step, kept_step};

@@ -2,6 +2,7 @@
 // A run taken to its end by the pull of a point mass (02, W-207): `take_off` starts it, and each `fly_on` answers its questions for a piece,
 // with one small room that begins at the next sample. By value, and total: what a flight tells is `specs/Story.antt`.
 #![tactic(auto)]
+
 ghost use Rattle.std.specs.Prelude.{◌≡◌, ◌&&◌, ◌<◌, ltb};
 ghost use Rattle.flight.specs.Flight.{beyond, landed, flight_of, taken_off, answered_by, is_ready, flown_on};
 

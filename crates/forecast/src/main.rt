@@ -2,6 +2,7 @@
 // The point-mass forecaster: nine lines on standard input, a line a sample on standard output. All that it prints is `forecaster`'s; here it
 // is only read and written.
 #![tactic(auto)]
+
 use forecaster::Forecast;
 
 // One byte more than nine lines have: a text that fills it is too long to be an input.

@@ -2,6 +2,7 @@
 // What `forecast` prints (02, W-207), in pieces: the input's nine lines begin a forecast, and each `print_on` gives the bytes of a further
 // piece, so that a year needs no large memory. Total; the program around it only reads and writes.
 #![tactic(auto)]
+
 ghost use Rattle.std.specs.Prelude.{◌≡◌, ◌≤◌, length};
 ghost use Rattle.lines.specs.Put.{over as put_over};
 ghost use Rattle.forecaster.specs.Printed.{settings_with};

@@ -3,6 +3,7 @@
 // question, or the finished state, or a refusal. The run is plain data, goes in by value and comes back by value.
 // Every function that a caller sees is total: document 01 names the answer to anything at all.
 #![tactic(auto)]
+
 ghost use Rattle.std.specs.Prelude.{◌≡◌};
 ghost use Rattle.plan.specs.Plan.{default_settings};
 ghost use Rattle.run.specs.Samples.{tens, numbers_of};

@@ -1,6 +1,7 @@
 // SPDX-License-Identifier: MIT OR Apache-2.0
 // Which interval a time falls into. The two interpolations have rules of their own (01, "Between samples").
 #![tactic(auto)]
+
 ghost use Rattle.std.specs.Prelude.{◌≡◌, true, false, ◌-◌};
 ghost use Rattle.intervals.specs.Table.{count_of};
 ghost use Rattle.intervals.specs.Intervals.{is_forward, last_time, ends_of, is_short, first_past, interval_of, walked_to};

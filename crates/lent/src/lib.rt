@@ -1,6 +1,7 @@
 // SPDX-License-Identifier: MIT OR Apache-2.0
 // 01: "a run lent by the caller and moved on where it stands". Each function calls the one by value and stores the run back.
 #![tactic(auto)]
+
 ghost use Rattle.std.specs.Prelude.{◌≡◌};
 ghost use Rattle.gauss_jackson.specs.Answers.{started, answered};
 ghost use Rattle.profile.specs.Start.{started_whole};

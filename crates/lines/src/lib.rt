@@ -1,6 +1,7 @@
 // SPDX-License-Identifier: MIT OR Apache-2.0
 // Numbers as text: into lent bytes, and out of them. No function writes a byte where not all of its bytes have room.
 #![tactic(auto)]
+
 ghost use Rattle.std.specs.Prelude.{◌≡◌};
 ghost use Rattle.lines.specs.Put.{put, after};
 ghost use Rattle.lines.specs.Digits.{hex_of, float_hex, decimal_of};

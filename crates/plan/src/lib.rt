@@ -1,6 +1,7 @@
 // SPDX-License-Identifier: MIT OR Apache-2.0
 // What a start is given and what never changes in a run afterwards: the settings, the plan that is made of them, and what is said of a start.
 #![tactic(auto)]
+
 ghost use Rattle.std.specs.Prelude.{◌≡◌};
 ghost use Rattle.plan.specs.Plan.{direction_of, plan_of, is_too_near};
 ghost use Rattle.plan.specs.Verdict.{verdict_on};

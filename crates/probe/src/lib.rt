@@ -2,6 +2,7 @@
 // Leaves of the library for C, one by one: what tests/roots and bench/ hold to the processor's own root. Apps link `app`, which has none of
 // these names.
 #![tactic(auto)]
+
 ghost use Rattle.std.specs.Prelude.{◌≡◌, cond};
 ghost use Rattle.root.specs.Root.{root_of};
 ghost use Rattle.triple.specs.Size.{size_of};

@@ -2,6 +2,7 @@
 // W-206, the whole-second profile: what a run of whole numbers costs, told before it is begun; and a start that tells it. What is accepted here
 // finishes on time, whatever the force says, if every call brings room for the samples.
 #![tactic(auto)]
+
 ghost use Rattle.std.specs.Prelude.{◌≡◌};
 ghost use Rattle.profile.specs.Costs.{no_cost, forecast_of};
 ghost use Rattle.profile.specs.Start.{with_cost, started_whole};

@@ -3,6 +3,7 @@
 // Evaluated in the order of the module's quintic_hermite, operation by operation; the acceleration, which the module does not tell, in its manner.
 // Total, at equal times and NaN too.
 #![tactic(auto)]
+
 ghost use Rattle.std.specs.Prelude.{◌≡◌};
 ghost use Rattle.quintic.specs.Quintic.{delta1, delta2, delta3, curve_of, position_on, velocity_on, acceleration_on, quintic_hermite};
 

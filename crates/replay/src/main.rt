@@ -3,6 +3,7 @@
 // count and refusal of the proved library, and what it tells between samples. A case may ask for its run to be put away and taken up on
 // its way, which may change nothing. Reads and writes in pieces; a misshapen line is answered `bad line N`, and the reading goes on.
 #![tactic(auto)]
+
 mod away;
 mod between;
 mod case;

@@ -3,6 +3,7 @@
 // l1, l2, .. got so far, and where the step ends. The first question is the point itself.
 // The order of rounding is 01's ("RK4: half steps use h·0.5; ..") and, within a stage, the module's rk4_step.
 #![tactic(auto)]
+
 ghost use Rattle.std.specs.Prelude.{◌≡◌};
 ghost use Rattle.rk4.specs.Rk4.{half_on, step_on, averaged, second_question, third_question, fourth_question, end_of_step};
 

@@ -2,6 +2,7 @@
 // The run: its records, and the mathematics of each waiting point by parts. Nothing here decides what an answer leads to; that is
 // `gauss_jackson`, which alone is meant for callers.
 #![tactic(auto)]
+
 use plan::Plan;
 use startup::{Places, Widest};
 use sums::{Fixed, Sums};

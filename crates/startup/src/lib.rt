@@ -2,6 +2,7 @@
 // The startup's nine points: their times and places, what a pass makes of them, and when the passes stop.
 // By parts of the run; nothing here asks a question.
 #![tactic(auto)]
+
 ghost use Rattle.std.specs.Prelude.{◌≡◌};
 ghost use Rattle.startup.specs.Points.{time_at, state_at, point_at, first_places, placed};
 

@@ -1,6 +1,7 @@
 // SPDX-License-Identifier: MIT OR Apache-2.0
 // A run put away and taken up again (W-201): its content as words, and the two calls. The blocks are in `blocks`.
 #![tactic(auto)]
+
 ghost use Rattle.std.specs.Prelude.{◌≡◌};
 ghost use Rattle.stored.specs.Stored.{storing, stored_in, loaded};
 

@@ -2,6 +2,7 @@
 // Weighted sums of accelerations, the running sums s and S, and the positions and velocities that come of them,
 // in 01's order of rounding. A row is named by a literal wherever it is known, so that its coefficients fold in.
 #![tactic(auto)]
+
 ghost use Rattle.std.specs.Prelude.{◌≡◌};
 ghost use Rattle.sums.specs.Weighted.{weighted, weighted_next, sum_a, sum_b, fixed_a, fixed_b};
 ghost use Rattle.sums.specs.Sums.{epoch_sums, on_sums, back_sums, point_of, predicted_state, fixed_of, corrected_state};

@@ -2,6 +2,7 @@
 // The two tables of coefficients, total for every row and column: outside the table stands 0.0.
 // What is stored lies behind `a_row` and `b_row` alone; a row named by a literal folds into its caller.
 #![tactic(auto)]
+
 ghost use Rattle.std.specs.Prelude.{◌≡◌};
 ghost use Rattle.tables.specs.Tables.{a_at, b_at, a_row, b_row};
 

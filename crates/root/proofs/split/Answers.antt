@@ -26,8 +26,8 @@ module _ (c : lts.Joined1 reads.Pre reads.Post) where
   scaled =
       let b = c.args.b in
       elim c.if-f-eq0.branch [
-        then-f-eq0 w ↦ moved (scaled_low (b / 2 ^ 52) (b % 2 ^ 52) w.if-f-eq0.true (omega (arith, w.if-f-eq0.true)) (omega arith)) w.m-is w.e-is
-      | else-f-eq0 w ↦ moved (scaled_high (b / 2 ^ 52) (b % 2 ^ 52) (omega (arith, w.if-f-eq0.false)) (omega arith) (omega arith)) w.m-is w.e-is
+        | then-f-eq0 w ↦ moved (scaled_low (b / 2 ^ 52) (b % 2 ^ 52) w.if-f-eq0.true (omega (arith, w.if-f-eq0.true)) (omega arith)) w.m-is w.e-is
+        | else-f-eq0 w ↦ moved (scaled_high (b / 2 ^ 52) (b % 2 ^ 52) (omega (arith, w.if-f-eq0.false)) (omega arith) (omega arith)) w.m-is w.e-is
       ]
 
 pub overflow_mul-result : goal.overflow_mul-result

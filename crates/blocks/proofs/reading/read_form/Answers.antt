@@ -13,6 +13,9 @@ returns c =
     let second = c.read_block-second.ensures in
     let third = c.read_block-third.ensures in
     let fourth = c.read_block-fourth.ensures in
-    let f = content_at start.args.bytes.now in record { value = simp (eq-eqb _ _ start.requires, first.value, second.value, third.value, fourth.value); content_after = fourth.content_after
+    let f = content_at start.args.bytes.now in record {
+      value = simp (eq-eqb _ _ start.requires, first.value, second.value, third.value, fourth.value);
+      content_after = fourth.content_after
           ∙ ap (filled_from f 378 126) (third.content_after ∙ ap (filled_from f 252 126) (second.content_after ∙ ap (filled_from f 126 126) first.content_after))
-          ∙ four_filled f start.args.content.now }
+          ∙ four_filled f start.args.content.now;
+    }

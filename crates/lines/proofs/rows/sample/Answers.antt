@@ -23,6 +23,9 @@ returns c =
     let start = decimal in
     let args = start.args in
     let ten = floats_of (ten_from args.first args.numbers.now) in
-    let e = length_sample args.n places.result args.numbers.now args.first places.ensures.0 start.requires.0 in record { value = omega (arith, e); out_after = ap (λ (l : List ℕ). set l (args.at + places.result + 170) 10)
+    let e = length_sample args.n places.result args.numbers.now args.first places.ensures.0 start.requires.0 in record {
+      value = omega (arith, e);
+      out_after = ap (λ (l : List ℕ). set l (args.at + places.result + 170) 10)
           (c.floats.ensures ∙ ap (over (args.at + places.result) ten) decimal.decimal.ensures)
-          ∙ sample_over args.n places.result args.at args.numbers.now args.first args.out.now places.ensures.0 start.requires.0 }
+          ∙ sample_over args.n places.result args.at args.numbers.now args.first args.out.now places.ensures.0 start.requires.0;
+    }
