@@ -3,34 +3,52 @@
 // is only read and written.
 #![tactic(auto)]
 
+ghost use Rattle.std.specs.Prelude.{◌≤◌, length, IfOk};
+
 use forecaster::Forecast;
+use std::io::{self, Read, Stdin, Stdout, Write};
 
 // One byte more than nine lines have: a text that fills it is too long to be an input.
 const TEXT: usize = 154;
 
+// So many bytes of the input, up to its end or as many as have place.
+fn read_full(input: &mut Stdin, text: &mut [u8]) -> io::Result<usize>
+    ensures { IfOk result (λ n. n ≤ length text.old) }
+{
+    let mut n = 0usize;
+    while n < text.len() {
+        let got = input.read(&mut text[n..])?;
+        if got == 0 {
+            return Ok(n);
+        }
+        n += got;
+    }
+    Ok(n)
+}
+
 // A piece printed; where it can't be written that is the end.
-fn print_piece(now: Forecast, bytes: &mut [u8]) -> Forecast {
+fn print_piece(out: &mut Stdout, now: Forecast, bytes: &mut [u8]) -> io::Result<Forecast> {
     let printed = forecaster::print_on(now, bytes);
     let n = printed.count;
     let mut next = printed.forecast;
-    let mut written = false;
     if n <= bytes.len() {
-        written = io::write_all(1, &bytes[..n]);
-    }
-    if !written {
+        out.write_all(&bytes[..n])?;
+    } else {
         next.over = true;
     }
-    next
+    Ok(next)
 }
 
-fn main() {
+fn main(rt: HostRuntime) -> io::Result<()> {
     let mut text = [0u8; TEXT];
-    let n = io::read_full(0, &mut text);
+    let n = read_full(&mut rt.stdin(), &mut text)?;
     let mut now = forecaster::begin(&text[..n]);
+    let mut out = rt.stdout();
     let mut bytes = [0u8; forecaster::LONGEST];
     let mut turns: u64 = 0;
     while !now.over && turns < 0x1000_0000_0000 {
-        now = print_piece(now, &mut bytes);
+        now = print_piece(&mut out, now, &mut bytes)?;
         turns += 1;
     }
+    Ok(())
 }
