@@ -3,6 +3,7 @@
 use crate::words::Number;
 use crate::{Place, text, words};
 use refusals::Told;
+use std::io::{self, Stdout};
 
 // More floats than a line has room for, and the numbers told of so many times.
 const MOST: usize = 2048;
@@ -51,76 +52,91 @@ fn copy(from: &[f64], n: usize, into: &mut [f64]) {
 }
 
 // A table: how many numbers of samples are held after it.
-pub fn take_table(place: Place, line: &[u8], at: usize, samples: &mut [f64]) -> usize {
+pub fn take_table(
+    to: &mut Stdout,
+    place: Place,
+    line: &[u8],
+    at: usize,
+    samples: &mut [f64],
+) -> io::Result<usize> {
     let name = words::next_word(line, at);
     let mut numbers = [0.0f64; MOST];
     let read = read_floats(line, name.end, &mut numbers);
     let Floats::Are(n) = read else {
-        text::print_bad(place.number);
-        return place.held;
+        text::print_bad(to, place.number)?;
+        return Ok(place.held);
     };
     if name.start == name.end {
-        text::print_bad(place.number);
-        return place.held;
+        text::print_bad(to, place.number)?;
+        return Ok(place.held);
     }
     if n % 10 != 0 {
-        text::print_bad(place.number);
-        return place.held;
+        text::print_bad(to, place.number)?;
+        return Ok(place.held);
     }
     copy(&numbers, n, samples);
-    text::print_named(b"table ", line, name);
-    n
+    text::print_named(to, b"table ", line, name)?;
+    Ok(n)
 }
 
 // What is told: a line for each time, or the refusal.
-fn tell(told: Told, times: usize, out: &[f64]) {
+fn tell(to: &mut Stdout, told: Told, times: usize, out: &[f64]) -> io::Result<()> {
     match told {
-        Told::Refused(e) => text::print_refused(refusals::number_of(e) as u64),
-        Told::Written => tell_each(times, out),
+        Told::Refused(e) => text::print_refused(to, refusals::number_of(e) as u64),
+        Told::Written => tell_each(to, times, out),
     }
 }
 
-fn tell_each(times: usize, out: &[f64]) {
+fn tell_each(to: &mut Stdout, times: usize, out: &[f64]) -> io::Result<()> {
     let mut j = 0usize;
     while j < times {
         if j < out.len() / dense::BETWEEN_NUMBERS {
             let at = dense::BETWEEN_NUMBERS * j;
-            text::print_between(&out[at..at + dense::BETWEEN_NUMBERS]);
+            text::print_between(to, &out[at..at + dense::BETWEEN_NUMBERS])?;
         }
         j += 1;
     }
+    Ok(())
 }
 
 // One time.
-pub fn tell_at(place: Place, line: &[u8], at: usize, samples: &[f64]) {
+pub fn tell_at(
+    to: &mut Stdout,
+    place: Place,
+    line: &[u8],
+    at: usize,
+    samples: &[f64],
+) -> io::Result<()> {
     let mut times = [0.0f64; MOST];
     let read = read_floats(line, at, &mut times);
     let Floats::Are(n) = read else {
-        text::print_bad(place.number);
-        return;
+        return text::print_bad(to, place.number);
     };
     if n != 1 {
-        text::print_bad(place.number);
-        return;
+        return text::print_bad(to, place.number);
     }
     let mut out = [0.0f64; dense::BETWEEN_NUMBERS];
     let told = dense::interpolate(times[0], samples, &mut out);
-    tell(told, 1, &out);
+    tell(to, told, 1, &out)
 }
 
 // A row of times.
-pub fn tell_batch(place: Place, line: &[u8], at: usize, samples: &[f64]) {
+pub fn tell_batch(
+    to: &mut Stdout,
+    place: Place,
+    line: &[u8],
+    at: usize,
+    samples: &[f64],
+) -> io::Result<()> {
     let mut times = [0.0f64; MOST];
     let read = read_floats(line, at, &mut times);
     let Floats::Are(n) = read else {
-        text::print_bad(place.number);
-        return;
+        return text::print_bad(to, place.number);
     };
     if n > MOST {
-        text::print_bad(place.number);
-        return;
+        return text::print_bad(to, place.number);
     }
     let mut out = [0.0f64; ANSWER];
     let told = dense::interpolate_batch(&times[..n], samples, &mut out);
-    tell(told, n, &out);
+    tell(to, told, n, &out)
 }

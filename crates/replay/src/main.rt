@@ -13,10 +13,15 @@ mod play;
 mod text;
 mod words;
 
+use std::io::{self, Read, Stdin, Stdout};
+
 // The longest line; room for 2,001 samples, ten numbers each.
 const LONGEST: usize = 32768;
 
 const ROOM: usize = 20010;
+
+// So many bytes are read at once.
+const PIECE: usize = 4096;
 
 // What is kept from line to line: the line's number from 1, how much of it is read (past LONGEST it is too long), and how many
 // numbers of samples the last case or table left.
@@ -35,24 +40,31 @@ pub struct Reading {
 }
 
 // One piece of the input.
-fn read_piece(place: Place, line: &mut [u8], samples: &mut [f64]) -> Reading {
-    let mut piece = io::buffer();
-    let got = libc::read(0, &mut piece);
-    let n = io::count(got, &piece);
+fn read_piece(
+    input: &mut Stdin,
+    to: &mut Stdout,
+    place: Place,
+    line: &mut [u8],
+    samples: &mut [f64],
+) -> io::Result<Reading> {
+    let mut piece = [0u8; PIECE];
+    let n = input.read(&mut piece)?;
     if n == 0 {
-        return Reading {
+        return Ok(Reading {
             place,
             going: false,
-        };
+        });
     }
-    let next = line::take(&piece[..n], place, line, samples);
-    Reading {
+    let next = line::take(to, &piece[..n], place, line, samples)?;
+    Ok(Reading {
         place: next,
         going: true,
-    }
+    })
 }
 
-fn main() {
+fn main(rt: HostRuntime) -> io::Result<()> {
+    let mut input = rt.stdin();
+    let mut to = rt.stdout();
     let mut line = [0u8; LONGEST];
     let mut samples = [0.0f64; ROOM];
     let place = Place {
@@ -63,8 +75,8 @@ fn main() {
     let mut now = Reading { place, going: true };
     let mut turns: u64 = 0;
     while now.going && turns < 0x1000_0000_0000 {
-        now = read_piece(now.place, &mut line, &mut samples);
+        now = read_piece(&mut input, &mut to, now.place, &mut line, &mut samples)?;
         turns += 1;
     }
-    line::finish(now.place, &line, &mut samples);
+    line::finish(&mut to, now.place, &line, &mut samples)
 }

@@ -4,6 +4,7 @@ use crate::case::Case;
 use crate::force::Force;
 use crate::{away, force, text};
 use gauss_jackson::{Answered, Outcome, Question, Run, Solution};
+use std::io::{self, Stdout};
 
 #[derive(Clone, Copy)]
 pub struct Playing {
@@ -12,14 +13,21 @@ pub struct Playing {
 }
 
 // One question: told, unless only the end is wanted, and answered.
-fn play_on(q: Question, run: Run, force: Force, whole: bool, samples: &mut [f64]) -> Playing {
+fn play_on(
+    to: &mut Stdout,
+    q: Question,
+    run: Run,
+    force: Force,
+    whole: bool,
+    samples: &mut [f64],
+) -> io::Result<Playing> {
     if whole {
-        text::print_ask(q);
+        text::print_ask(to, q)?;
     }
     let told = force::answer(force, q.t, q.r, q.v);
     let now = gauss_jackson::answer(run, q.number, told.a, 0, samples);
     let force = told.force;
-    Playing { now, force }
+    Ok(Playing { now, force })
 }
 
 // How many numbers a finished run has stored: ten a sample, one sample a step and one more.
@@ -33,29 +41,36 @@ fn stored(case: Case, steps: u64, samples: &[f64]) -> usize {
     0
 }
 
-fn print_samples(held: usize, samples: &[f64]) {
+fn print_samples(to: &mut Stdout, held: usize, samples: &[f64]) -> io::Result<()> {
     let mut n = 0usize;
     while n < held / 10 {
         let at = n * 10;
         if at + 10 <= samples.len() {
-            text::print_sample(n, &samples[at..at + 10]);
+            text::print_sample(to, n, &samples[at..at + 10])?;
         }
         n += 1;
     }
+    Ok(())
 }
 
 // The end of a finished run, and before it the samples, unless only the end is wanted; says how many numbers of samples there are.
-fn finish(case: Case, s: Solution, whole: bool, samples: &[f64]) -> usize {
+fn finish(
+    to: &mut Stdout,
+    case: Case,
+    s: Solution,
+    whole: bool,
+    samples: &[f64],
+) -> io::Result<usize> {
     let held = stored(case, s.steps, samples);
     if whole {
-        print_samples(held, samples);
+        print_samples(to, held, samples)?;
     }
-    text::print_done(s);
-    held
+    text::print_done(to, s)?;
+    Ok(held)
 }
 
 // Plays a case, and says how many numbers of samples it leaves. The transcript is whole, or its end alone.
-pub fn play(case: Case, whole: bool, samples: &mut [f64]) -> usize {
+pub fn play(to: &mut Stdout, case: Case, whole: bool, samples: &mut [f64]) -> io::Result<usize> {
     let first = gauss_jackson::start(case.settings, case.t0, case.tf, case.r0, case.v0);
     let force = case.force;
     let mut playing = Playing { now: first, force };
@@ -65,17 +80,17 @@ pub fn play(case: Case, whole: bool, samples: &mut [f64]) -> usize {
         let outcome = now.outcome;
         match outcome {
             Outcome::Ask(q) => {
-                playing = play_on(q, now.run, playing.force, whole, samples);
+                playing = play_on(to, q, now.run, playing.force, whole, samples)?;
             }
             Outcome::Done(s) => {
-                return finish(case, s, whole, samples);
+                return finish(to, case, s, whole, samples);
             }
             Outcome::Refused(e) => {
-                text::print_refused(refusals::number_of(e) as u64);
-                return 0;
+                text::print_refused(to, refusals::number_of(e) as u64)?;
+                return Ok(0);
             }
         }
         turns += 1;
     }
-    0
+    Ok(0)
 }

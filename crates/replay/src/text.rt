@@ -3,6 +3,7 @@
 use crate::words::Word;
 use bits::Pattern;
 use gauss_jackson::{Question, Solution};
+use std::io::{self, Stdout, Write};
 use triple::Triple;
 
 const WIDTH: usize = 512;
@@ -49,24 +50,25 @@ fn put_triple(line: &mut [u8], at: usize, x: Triple) -> usize {
 }
 
 // Writes the line with its end.
-fn print(line: &mut [u8], at: usize) {
+fn print(to: &mut Stdout, line: &mut [u8], at: usize) -> io::Result<()> {
     let n = put(line, at, b'\n');
     if n <= line.len() {
-        io::write_all(1, &line[..n]);
+        to.write_all(&line[..n])?;
     }
+    Ok(())
 }
 
-pub fn print_ask(q: Question) {
+pub fn print_ask(to: &mut Stdout, q: Question) -> io::Result<()> {
     let mut line = [0u8; WIDTH];
     let a = put_text(&mut line, 0, b"ask");
     let b = put_decimal(&mut line, a, q.number as u64);
     let c = put_float(&mut line, b, q.t);
     let d = put_triple(&mut line, c, q.r);
     let e = put_triple(&mut line, d, q.v);
-    print(&mut line, e);
+    print(to, &mut line, e)
 }
 
-pub fn print_done(s: Solution) {
+pub fn print_done(to: &mut Stdout, s: Solution) -> io::Result<()> {
     let mut line = [0u8; WIDTH];
     let a = put_text(&mut line, 0, b"done");
     let b = put_float(&mut line, a, s.t);
@@ -75,7 +77,7 @@ pub fn print_done(s: Solution) {
     let e = put_decimal(&mut line, d, s.evals);
     let f = put_decimal(&mut line, e, s.steps);
     let g = put_decimal(&mut line, f, s.startup_iters);
-    print(&mut line, g);
+    print(to, &mut line, g)
 }
 
 fn put_floats(line: &mut [u8], at: usize, numbers: &[f64]) -> usize {
@@ -89,46 +91,46 @@ fn put_floats(line: &mut [u8], at: usize, numbers: &[f64]) -> usize {
 }
 
 // `sample n` and its ten numbers.
-pub fn print_sample(n: usize, numbers: &[f64]) {
+pub fn print_sample(to: &mut Stdout, n: usize, numbers: &[f64]) -> io::Result<()> {
     let mut line = [0u8; WIDTH];
     let a = put_text(&mut line, 0, b"sample");
     let b = put_decimal(&mut line, a, n as u64);
     let c = put_floats(&mut line, b, numbers);
-    print(&mut line, c);
+    print(to, &mut line, c)
 }
 
 // `interp` and the numbers of one time.
-pub fn print_between(numbers: &[f64]) {
+pub fn print_between(to: &mut Stdout, numbers: &[f64]) -> io::Result<()> {
     let mut line = [0u8; WIDTH];
     let a = put_text(&mut line, 0, b"interp");
     let b = put_floats(&mut line, a, numbers);
-    print(&mut line, b);
+    print(to, &mut line, b)
 }
 
-fn print_number(what: &[u8], n: u64) {
+fn print_number(to: &mut Stdout, what: &[u8], n: u64) -> io::Result<()> {
     let mut line = [0u8; WIDTH];
     let a = put_text(&mut line, 0, what);
     let b = put_decimal(&mut line, a, n);
-    print(&mut line, b);
+    print(to, &mut line, b)
 }
 
-pub fn print_refused(n: u64) {
-    print_number(b"refused", n);
+pub fn print_refused(to: &mut Stdout, n: u64) -> io::Result<()> {
+    print_number(to, b"refused", n)
 }
 
-pub fn print_bad(number: u64) {
-    print_number(b"bad line", number);
+pub fn print_bad(to: &mut Stdout, number: u64) -> io::Result<()> {
+    print_number(to, b"bad line", number)
 }
 
 // A keyword, and the word that stands in a line.
-pub fn print_named(what: &[u8], line: &[u8], name: Word) {
+pub fn print_named(to: &mut Stdout, what: &[u8], line: &[u8], name: Word) -> io::Result<()> {
     let start = name.start;
     let end = name.end;
-    io::write_all(1, what);
+    to.write_all(what)?;
     if start <= end {
         if end <= line.len() {
-            io::write_all(1, &line[start..end]);
+            to.write_all(&line[start..end])?;
         }
     }
-    io::write_all(1, b"\n");
+    to.write_all(b"\n")
 }

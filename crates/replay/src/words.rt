@@ -70,7 +70,7 @@ pub fn is_text(line: &[u8], w: Word, text: &[u8]) -> bool {
     if end - start != text.len() {
         return false;
     }
-    check::same(&line[start..end], text)
+    line[start..end] == text[..]
 }
 
 // The value of a decimal digit, 10 for any other byte.
