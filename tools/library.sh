@@ -14,8 +14,8 @@ library_stamp() {
 
 # Streams a line for each crate as it is proved; the whole log is shown where something is not.
 stream_proofs() {
-    { rt staticlib app 2>&1 && echo "all proved"; } | tee "$1" | while IFS= read -r line; do
-        case $line in 'rt: '*' proved ('*) echo "    ${line#rt: }" >&2 ;; esac
+    { (cd crates/app && rt lib) 2>&1 && echo "all proved"; } | tee "$1" | while IFS= read -r line; do
+        case $line in 'rt: chose '*' for '*) echo "    ${line##* for }" >&2 ;; esac
     done
     [ "$(tail -n 1 "$1")" = 'all proved' ] || { cat "$1" >&2; echo "the library is not proved: see above" >&2; exit 1; }
     echo "    app proved, and the library written" >&2
@@ -28,7 +28,7 @@ prove_library() {
     mkdir -p target/staticlib
     echo "Proving the library. From nothing this takes about five minutes; a line for each crate follows." >&2
     stream_proofs target/staticlib.log
-    cp target/staticlib/libapp.a $library
+    cp crates/app/out/libapp.a $library
     library_stamp >$stamp
 }
 
@@ -36,8 +36,8 @@ prove_library() {
 need_probe() {
     [ -n "$kit" ] || lacks "$kit_wanted"
     mkdir -p target
-    rt staticlib probe >target/probe.log 2>&1 || { cat target/probe.log >&2; echo "the probe is not proved: see above" >&2; exit 1; }
-    probe=target/staticlib/libprobe.a
+    (cd crates/probe && rt lib) >target/probe.log 2>&1 || { cat target/probe.log >&2; echo "the probe is not proved: see above" >&2; exit 1; }
+    probe=crates/probe/out/libprobe.a
 }
 
 # The calls that the header declares, and its part on whole numbers, a line each.

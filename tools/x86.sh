@@ -23,7 +23,7 @@ takes_no_words() { [ "$1" -eq 0 ] || wrong "$0 takes no words"; }
 find_kit() {
     kit="" kit_wanted="the command rt is not on the path: the Rattle kit brings it (or GJ_LIBRARY names a library that stands already)"
     rt=$(command -v rt) || return 0
-    kit=${RATTLE_HOME:-$(dirname "$(dirname "$(readlink -f "$rt")")")}/on/$machine/toolchain
+    kit=${RATTLE_HOME:-$(dirname "$(dirname "$(readlink -f "$rt")")")}/toolchain
     [ -x "$kit/bin/clang" ] && return
     kit_wanted="the kit of $rt has no compiler at $kit/bin (RATTLE_HOME says where the kit is)"
     kit=

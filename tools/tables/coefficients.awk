@@ -24,7 +24,12 @@ function decimal_of(entry,   minus, name, at) {
 array == "" && /^(\/\/.*)?$/ { next }
 array == "" { fail("not understood") }
 /^];$/ { if (column != 9) fail(array " has " column " entries"); array = ""; next }
-{ entry = $0; gsub(/^ +|,$/, "", entry); decimal[array, column] = decimal_of(entry); kinds[array, column++] = kind }
+{
+    rest = $0
+    gsub(/^ +|,$/, "", rest)
+    entries = split(rest, row, /, /)
+    for (j = 1; j <= entries; j++) { decimal[array, column] = decimal_of(row[j]); kinds[array, column++] = kind }
+}
 END {
     if (failed) exit 1
     for (t = 1; t <= 2; t++)

@@ -1,4 +1,4 @@
--- `is_forward` is `isForward`.
+-- `is_forward` is `is_forward`.
 use Rattle.intervals.specs.Intervals.{is_forward}
 use Rattle.intervals.proofs.is_forward.Goals as goal
 
