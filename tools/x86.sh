@@ -7,7 +7,7 @@
 #   EMULATOR       what runs x86-64 programs on another processor
 # A script that lacks something says so in one sentence and ends with 3; wrong words end with 2; what fails, with 1.
 #
-# The Rattle kit is enough for C: it brings clang, a linker, a C library and, on Arm, an emulator. More, from Debian 12 on:
+# The Rattle kit, for x86-64 alone, is enough for C: it brings clang, a linker and a C library. More, from Debian 12 on:
 #   Arm:     dpkg --add-architecture amd64 && apt-get update
 #            apt-get install --install-recommends gcc-x86-64-linux-gnu rustc cargo libstd-rust-dev:amd64 pkgconf
 #   x86-64:  apt-get install gcc libc6-dev rustc cargo pkgconf
@@ -31,7 +31,7 @@ find_kit() {
 
 find_emulator() {
     if [ "$machine" = x86_64 ]; then emulator=${EMULATOR-}; return; fi
-    emulator=${EMULATOR-${kit:+$kit/bin/}qemu-x86_64}
+    emulator=${EMULATOR-qemu-x86_64}
     command -v "${emulator:-none}" >/dev/null && return
     lacks "nothing here runs x86-64 programs: no command '$emulator' (Debian: qemu-user; EMULATOR names another)"
 }
