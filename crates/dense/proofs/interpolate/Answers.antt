@@ -10,5 +10,4 @@ returns-in-Refused c = record { value = sym c.in-Refused.is ∙ c.judge-told.ens
 pub returns-in-Written : goal.returns-in-Written
 unfolding interpolated unless
 returns-in-Written c =
-    let past = c in
-    record { value = sym c.in-Written.is ∙ past.judge-told.ensures; out_after = rw (← past.judge-told.ensures, c.in-Written.is, c.store.ensures, c.value.ensures, c.interval_of-k.ensures) }
+    record { value = sym c.in-Written.is ∙ c.judge-told.ensures; out_after = rw (← c.judge-told.ensures, c.in-Written.is, c.store.ensures, c.value.ensures, c.interval_of-k.ensures) }

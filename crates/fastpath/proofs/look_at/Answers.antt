@@ -18,13 +18,11 @@ look_on-requires c = omega (arith, (open_few _ _ _ _ (sym c.is_open_step.ensures
 
 pub returns-then-end : goal.returns-then-end
 returns-then-end c =
-    let past = c in
-    is_made_lem _ _ _ _ _ _ _ _ _ _ (sym past.is_open_step.ensures ∙ c.if-not-is_open_step.false) (eq-eqb _ _ c.if-mark-number.false) _ _ c.next_count-count.ensures c.reach-end.ensures.1 (sym c.reach-end.ensures.0 ∙ c.if-end.true) c.look_on.ensures
+    is_made_lem _ _ _ _ _ _ _ _ _ _ (sym c.is_open_step.ensures ∙ c.if-not-is_open_step.false) (eq-eqb _ _ c.if-mark-number.false) _ _ c.next_count-count.ensures c.reach-end.ensures.1 (sym c.reach-end.ensures.0 ∙ c.if-end.true) c.look_on.ensures
 
 pub look_again-requires : goal.look_again-requires
 look_again-requires c = omega (arith, (open_few _ _ _ _ (sym c.is_open_step.ensures ∙ c.if-not-is_open_step.false)).passes)
 
 pub returns : goal.returns
 returns c =
-    let past = c in
-    not_made _ _ _ _ _ _ _ _ _ _ (sym past.is_open_step.ensures ∙ c.if-not-is_open_step.false) (eq-eqb _ _ c.if-mark-number.false) _ _ c.next_count-count.ensures c.reach-end.ensures.1 (sym c.reach-end.ensures.0 ∙ c.if-end.false) c.look_again.ensures
+    not_made _ _ _ _ _ _ _ _ _ _ (sym c.is_open_step.ensures ∙ c.if-not-is_open_step.false) (eq-eqb _ _ c.if-mark-number.false) _ _ c.next_count-count.ensures c.reach-end.ensures.1 (sym c.reach-end.ensures.0 ∙ c.if-end.false) c.look_again.ensures

@@ -5,5 +5,4 @@ use Rattle.fastpath.proofs.make_step.Goals as goal
 pub returns : goal.returns
 unfolding made_step kept_step
 returns c =
-    let past = c in
-    (simp (past.ask_at-question.ensures, past.fixed_of-fixed.ensures, past.predicted-state.ensures, past.slid-window.ensures, past.track_by-next.ensures, c.stored_by-stored.ensures, c.wants_samples-wanted.ensures), simp (c.keep_sample.ensures, c.step_sample.ensures, c.wants_samples-wanted.ensures, past.slid-window.ensures, past.track_by-next.ensures))
+    (simp (c.ask_at-question.ensures, c.fixed_of-fixed.ensures, c.predicted-state.ensures, c.slid-window.ensures, c.track_by-next.ensures, c.stored_by-stored.ensures, c.wants_samples-wanted.ensures), simp (c.keep_sample.ensures, c.step_sample.ensures, c.wants_samples-wanted.ensures, c.slid-window.ensures, c.track_by-next.ensures))

@@ -8,9 +8,8 @@ use Rattle.flight.proofs.answer_plainly.Goals as goal
 
 pub overflow_add-next : goal.overflow_add-next
 overflow_add-next c =
-    let past = c in
     let h : c.answer-done.result.stored ≤ 5 = rw c.answer-done.ensures.0 (stored_few _ _ _ _) in
-    omega (arith, h, past.requires)
+    omega (arith, h, c.requires)
 
 pub returns : goal.returns
 unfolding answered_by flown_after

@@ -20,66 +20,55 @@ shape_of-out-then-pulled c = c.loop-left.invariant.0
 pub returns-then-pulled : goal.returns-then-pulled
 unfolding flown_on
 returns-then-pulled c =
-    let at = c in
-    let h = sym (turned_low _ _ _ _ _ _ (sym at.is_ready.ensures ∙ c.loop-left-test.true) c.pull_at-pulled.ensures c.if-pulled.true) ∙ at.loop-left.invariant.1 in
+    let h = sym (turned_low _ _ _ _ _ _ (sym c.is_ready.ensures ∙ c.loop-left-test.true) c.pull_at-pulled.ensures c.if-pulled.true) ∙ c.loop-left.invariant.1 in
     (c.land.ensures ∙ rw c.together.ensures (ap (λ (g : Flown). g.flight) h), ap (λ (g : Flown). g.out) h)
 
 -- ---- once more
 pub loop-left-smaller-then-look : goal.loop-left-smaller-then-look
 loop-left-smaller-then-look c =
-    let at = c in
-    (going_is _ _ _ _ _ (sym at.is_ready.ensures ∙ at.loop-left-test.true)).2
+    (going_is _ _ _ _ _ (sym c.is_ready.ensures ∙ c.loop-left-test.true)).2
 
 pub loop-left-preserved-then-look : goal.loop-left-preserved-then-look
-loop-left-preserved-then-look c =
-    let at = c in (
-      at.loop-left.invariant.0,
-      rw c.try_again-parts.ensures
-          (sym (turned_again _ _ _ _ _ _ (sym at.is_ready.ensures ∙ c.loop-left-test.true) c.pull_at-pulled.ensures
-          c.if-pulled.false _ c.look_at-look.ensures c.if-look.true) ∙ at.loop-left.invariant.1),
-    )
+loop-left-preserved-then-look c = (
+  c.loop-left.invariant.0,
+  rw c.try_again-parts.ensures
+      (sym (turned_again _ _ _ _ _ _ (sym c.is_ready.ensures ∙ c.loop-left-test.true) c.pull_at-pulled.ensures
+      c.if-pulled.false _ c.look_at-look.ensures c.if-look.true) ∙ c.loop-left.invariant.1),
+)
 
 -- ---- on
 pub step_on-parts-requires : goal.step_on-parts-requires
 step_on-parts-requires c =
-    let at = c in
-    (going_is at.loop-left.left _ _ _ _ (sym at.is_ready.ensures ∙ at.loop-left-test.true)).3
+    (going_is c.loop-left.left _ _ _ _ (sym c.is_ready.ensures ∙ c.loop-left-test.true)).3
 
 pub loop-left-smaller-then-look-2 : goal.loop-left-smaller-then-look-2
 loop-left-smaller-then-look-2 c =
-    let at = c in
-    (going_is _ _ _ _ _ (sym at.is_ready.ensures ∙ at.loop-left-test.true)).2
+    (going_is _ _ _ _ _ (sym c.is_ready.ensures ∙ c.loop-left-test.true)).2
 
 pub loop-left-preserved-then-look-2 : goal.loop-left-preserved-then-look-2
-loop-left-preserved-then-look-2 c =
-    let look = c in
-    let at = look in (
-      omega (arith, c.step_on-parts.auto, at.loop-left.invariant.0),
-      rw (c.step_on-parts.ensures.0, c.step_on-parts.ensures.1)
-          (sym (turned_on _ _ _ _ _ _ (sym at.is_ready.ensures ∙ look.loop-left-test.true) look.pull_at-pulled.ensures
-          look.if-pulled.false _ look.look_at-look.ensures c.if-look-2.true) ∙ at.loop-left.invariant.1),
-    )
+loop-left-preserved-then-look-2 c = (
+  omega (arith, c.step_on-parts.auto, c.loop-left.invariant.0),
+  rw (c.step_on-parts.ensures.0, c.step_on-parts.ensures.1)
+      (sym (turned_on _ _ _ _ _ _ (sym c.is_ready.ensures ∙ c.loop-left-test.true) c.pull_at-pulled.ensures
+      c.if-pulled.false _ c.look_at-look.ensures c.if-look-2.true) ∙ c.loop-left.invariant.1),
+)
 
 -- ---- the plain way
 pub answer_plainly-f-requires : goal.answer_plainly-f-requires
 unfolding together
 answer_plainly-f-requires c =
-    let at = c in
-    rw c.together-in-loop-left.ensures (going_is at.loop-left.left _ _ _ _ (sym at.is_ready.ensures ∙ at.loop-left-test.true)).3
+    rw c.together-in-loop-left.ensures (going_is c.loop-left.left _ _ _ _ (sym c.is_ready.ensures ∙ c.loop-left-test.true)).3
 
 pub loop-left-smaller : goal.loop-left-smaller
 loop-left-smaller c =
-    let at = c in
-    (going_is _ _ _ _ _ (sym at.is_ready.ensures ∙ at.loop-left-test.true)).2
+    (going_is _ _ _ _ _ (sym c.is_ready.ensures ∙ c.loop-left-test.true)).2
 
 pub loop-left-preserved : goal.loop-left-preserved
 loop-left-preserved c =
-    let past = c in
-    let at = past in
     let done = c.answer_plainly-f in (
-      omega (arith, done.auto, at.loop-left.invariant.0),
+      omega (arith, done.auto, c.loop-left.invariant.0),
       rw (c.parts_of-parts-in-loop-left.ensures, whole _, done.ensures.0, done.ensures.1, c.together-in-loop-left.ensures)
-          (sym (turned_plainly _ _ _ _ _ _ (sym at.is_ready.ensures ∙ past.loop-left-test.true) past.pull_at-pulled.ensures past.if-pulled.false) ∙ at.loop-left.invariant.1),
+          (sym (turned_plainly _ _ _ _ _ _ (sym c.is_ready.ensures ∙ c.loop-left-test.true) c.pull_at-pulled.ensures c.if-pulled.false) ∙ c.loop-left.invariant.1),
     )
 
 -- ---- no further question is answered here

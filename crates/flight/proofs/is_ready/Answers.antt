@@ -16,11 +16,9 @@ returns-then-not-asks c = rw (lt-ltb 0 c.args.left (omega (arith, c.if-left-eq0.
 pub returns-then-not-has_place : goal.returns-then-not-has_place
 unfolding is_ready has_place
 returns-then-not-has_place c =
-    let at = c in
-    rw (lt-ltb 0 at.args.left (omega (arith, c.if-left-eq0.false)), c.if-not-asks.false, sym c.has_place.ensures ∙ c.if-not-has_place.true)
+    rw (lt-ltb 0 c.args.left (omega (arith, c.if-left-eq0.false)), c.if-not-asks.false, sym c.has_place.ensures ∙ c.if-not-has_place.true)
 
 pub returns : goal.returns
 unfolding is_ready has_place
 returns c =
-    let at = c in
-    rw (lt-ltb 0 at.args.left (omega (arith, c.if-left-eq0.false)), c.if-not-asks.false, sym c.has_place.ensures ∙ c.if-not-has_place.false)
+    rw (lt-ltb 0 c.args.left (omega (arith, c.if-left-eq0.false)), c.if-not-asks.false, sym c.has_place.ensures ∙ c.if-not-has_place.false)

@@ -22,28 +22,23 @@ returns-then-forecast c = rw (le-leb longest_piece _ c.if-out-lt-LONGEST.false, 
 pub returns-then-not-forecast : goal.returns-then-not-forecast
 unfolding piece_in piece_of over Rattle.forecaster.specs.Pieces.unread_piece
 returns-then-not-forecast c =
-    let past = c in
-    let far = past in
-    let reads = far.args.forecast.reads in
-    rw (le-leb longest_piece _ far.if-out-lt-LONGEST.false, far.if-forecast.false, not-true reads past.if-not-forecast.true) c.print_unread.ensures
+    let reads = c.args.forecast.reads in
+    rw (le-leb longest_piece _ c.if-out-lt-LONGEST.false, c.if-forecast.false, not-true reads c.if-not-forecast.true) c.print_unread.ensures
 
 pub overflow_sub-told : goal.overflow_sub-told
 overflow_sub-told c = told_forth _ _ _ [] c.fly_on-after.ensures.0
 
 pub put_told-count-requires : goal.put_told-count-requires
 put_told-count-requires c =
-    let past = c in
     let flown = c.fly_on-after.ensures in
     let fits = told_fits _ _ _ _ flown.0 flown.1 (length-replicate {A = Float} 640 nought) in
-    (fits.0, fits.1, fits.2, past.if-out-lt-LONGEST.false)
+    (fits.0, fits.1, fits.2, c.if-out-lt-LONGEST.false)
 
 pub returns : goal.returns
 unfolding of_bits
 returns c =
     let told = c.put_told-count.ensures in
-    let past = c in
-    let flown = past.fly_on-after.ensures in
-    let far = past in
-    let args = far.args in
-    told_piece args.forecast _ _ args.out.now _ _ _ (le-leb longest_piece _ far.if-out-lt-LONGEST.false) far.if-forecast.false
-    (not-false args.forecast.reads far.if-not-forecast.false) flown.0 flown.1 refl told.value told.out_after
+    let flown = c.fly_on-after.ensures in
+    let args = c.args in
+    told_piece args.forecast _ _ args.out.now _ _ _ (le-leb longest_piece _ c.if-out-lt-LONGEST.false) c.if-forecast.false
+    (not-false args.forecast.reads c.if-not-forecast.false) flown.0 flown.1 refl told.value told.out_after

@@ -12,7 +12,6 @@ unfolding unread_piece over
 returns c =
     let told = c.put_refusal-count.ensures in
     let number = c.number_of-number.ensures in
-    let at = c in
-    let out = at.args.out.now in
-    let more = refusal_more _ [] out out _ 0 _ refl (omega arith) refl at.requires told.value told.out_after in
+    let out = c.args.out.now in
+    let more = refusal_more _ [] out out _ 0 _ refl (omega arith) refl c.requires told.value told.out_after in
     rw (← number) (refl, more.0, more.1)

@@ -18,11 +18,9 @@ next_count-count-requires c = omega (arith, evals_small _ (sym c.is_sound.ensure
 
 pub take-requires : goal.take-requires
 take-requires c =
-    let past = c in
-    rw c.waits_at-w.ensures (ready _ (sym past.is_sound.ensures ∙ past.if-not-is_sound.false))
+    rw c.waits_at-w.ensures (ready _ (sym c.is_sound.ensures ∙ c.if-not-is_sound.false))
 
 pub returns : goal.returns
 unfolding answered numbers_of
 returns c =
-    let past = c in
-    rw (sym past.is_sound.ensures ∙ past.if-not-is_sound.false, eq-eqb _ _ past.if-mark-number.false, ← c.waits_at-w.ensures, ← c.next_count-count.ensures) c.take.ensures
+    rw (sym c.is_sound.ensures ∙ c.if-not-is_sound.false, eq-eqb _ _ c.if-mark-number.false, ← c.waits_at-w.ensures, ← c.next_count-count.ensures) c.take.ensures

@@ -22,16 +22,14 @@ decimal-requires c = leb-true _ _ (sym c.has_room.ensures ∙ c.if-not-has_room.
 
 pub overflow_add-result : goal.overflow_add-result
 overflow_add-result c =
-    let room = c in
-    let args = room.args in
-    omega (arith, leb-true (args.at + room.places-k.result) (length args.out.now) (sym room.has_room.ensures ∙ room.if-not-has_room.false))
+    let args = c.args in
+    omega (arith, leb-true (args.at + c.places-k.result) (length args.out.now) (sym c.has_room.ensures ∙ c.if-not-has_room.false))
 
 pub returns : goal.returns
 unfolding decimal_of
 returns c =
-    let room = c in
-    let k = room.places-k in
-    let args = room.args in
+    let k = c.places-k in
+    let args = c.args in
     let e = length_decimal args.n ∙ sym k.ensures.0 in
-    let h = sym room.has_room.ensures ∙ room.if-not-has_room.false in
+    let h = sym c.has_room.ensures ∙ c.if-not-has_room.false in
     let d = ap (λ (j : ℕ). over args.at (digits 10 j args.n) args.out.now) k.ensures.0 in record { value = sym (after_all (decimal_of args.n) k.result args.at args.out.now e h); out_after = c.decimal.ensures ∙ d ∙ sym (put_all (decimal_of args.n) k.result args.at args.out.now e h) }

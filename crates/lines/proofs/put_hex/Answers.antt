@@ -20,13 +20,11 @@ hex-requires c = leb-true _ _ (sym c.has_room.ensures ∙ c.if-not-has_room.fals
 
 pub overflow_add-result : goal.overflow_add-result
 overflow_add-result c =
-    let room = c in
-    let args = room.args in
-    omega (arith, leb-true (args.at + 16) (length args.out.now) (sym room.has_room.ensures ∙ room.if-not-has_room.false))
+    let args = c.args in
+    omega (arith, leb-true (args.at + 16) (length args.out.now) (sym c.has_room.ensures ∙ c.if-not-has_room.false))
 
 pub returns : goal.returns
 returns c =
-    let room = c in
-    let args = room.args in
+    let args = c.args in
     let e = length_hex args.x in
-    let h = sym room.has_room.ensures ∙ room.if-not-has_room.false in record { value = sym (after_all (hex_of args.x) 16 args.at args.out.now e h); out_after = c.hex.ensures ∙ sym (put_all (hex_of args.x) 16 args.at args.out.now e h) }
+    let h = sym c.has_room.ensures ∙ c.if-not-has_room.false in record { value = sym (after_all (hex_of args.x) 16 args.at args.out.now e h); out_after = c.hex.ensures ∙ sym (put_all (hex_of args.x) 16 args.at args.out.now e h) }

@@ -11,23 +11,18 @@ returns-then-not-has_room c = let h = sym c.has_room.ensures ∙ c.if-not-has_ro
 pub returns-then-not-has_room-2 : goal.returns-then-not-has_room-2
 unfolding line_fits put_line after_line
 returns-then-not-has_room-2 c =
-    let ten = c in
-    let h = sym ten.has_room.ensures ∙ ten.if-not-has_room.false in
+    let h = sym c.has_room.ensures ∙ c.if-not-has_room.false in
     let r = sym c.has_room-2.ensures ∙ c.if-not-has_room-2.true in
     record { value = simp (h, r); out_after = simp (h, r) }
 
 pub sample-requires : goal.sample-requires
 sample-requires c =
-    let room = c in
-    let ten = room in
-    (leb-true _ _ (sym ten.has_room.ensures ∙ ten.if-not-has_room.false), leb-true _ _ (sym room.has_room-2.ensures ∙ room.if-not-has_room-2.false))
+    (leb-true _ _ (sym c.has_room.ensures ∙ c.if-not-has_room.false), leb-true _ _ (sym c.has_room-2.ensures ∙ c.if-not-has_room-2.false))
 
 pub returns : goal.returns
 unfolding line_fits put_line after_line
 returns c =
     let told = c.sample.ensures in
-    let room = c in
-    let ten = room in
-    let h = sym ten.has_room.ensures ∙ ten.if-not-has_room.false in
-    let r = sym room.has_room-2.ensures ∙ room.if-not-has_room-2.false in
+    let h = sym c.has_room.ensures ∙ c.if-not-has_room.false in
+    let r = sym c.has_room-2.ensures ∙ c.if-not-has_room-2.false in
     record { value = simp (h, r) told.value; out_after = simp (h, r) told.out_after }

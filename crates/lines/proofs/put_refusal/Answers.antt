@@ -23,9 +23,8 @@ refusal-requires c =
 pub returns : goal.returns
 returns c =
     let told = c.refusal.ensures in
-    let room = c in
-    let k = room.places-k in
-    let args = room.args in
+    let k = c.places-k in
+    let args = c.args in
     let line = refusal_line args.n in
     let e = length_refusal args.n k.result k.ensures.0 in
-    let h = sym room.has_room.ensures ∙ room.if-not-has_room.false in record { value = told.value ∙ sym (after_all line (k.result + 1) args.at args.out.now e h); out_after = told.out_after ∙ sym (put_all line (k.result + 1) args.at args.out.now e h) }
+    let h = sym c.has_room.ensures ∙ c.if-not-has_room.false in record { value = told.value ∙ sym (after_all line (k.result + 1) args.at args.out.now e h); out_after = told.out_after ∙ sym (put_all line (k.result + 1) args.at args.out.now e h) }

@@ -6,5 +6,4 @@ use Rattle.quintic.proofs.acceleration_on.Goals as goal
 pub returns : goal.returns
 unfolding acceleration_on of_bits of_int
 returns c =
-    let past = c in
-    simp (c.plus-2.ensures, c.over.ensures, c.plus-bent.ensures, c.plus.ensures, c.times-fifth.ensures, c.times-fourth.ensures, past.times-third.ensures)
+    simp (c.plus-2.ensures, c.over.ensures, c.plus-bent.ensures, c.plus.ensures, c.times-fifth.ensures, c.times-fourth.ensures, c.times-third.ensures)

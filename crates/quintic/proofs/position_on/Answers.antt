@@ -6,5 +6,4 @@ use Rattle.quintic.proofs.position_on.Goals as goal
 pub returns : goal.returns
 unfolding position_on of_bits
 returns c =
-    let past = c in
-    simp (c.plus-4.ensures, c.times-5.ensures, c.plus-3.ensures, c.times-4.ensures, c.plus-2.ensures, c.times-3.ensures, c.plus-course.ensures, past.times-2.ensures, past.plus.ensures, past.times.ensures)
+    simp (c.plus-4.ensures, c.times-5.ensures, c.plus-3.ensures, c.times-4.ensures, c.plus-2.ensures, c.times-3.ensures, c.plus-course.ensures, c.times-2.ensures, c.plus.ensures, c.times.ensures)

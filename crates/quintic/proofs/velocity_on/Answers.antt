@@ -6,5 +6,4 @@ use Rattle.quintic.proofs.velocity_on.Goals as goal
 pub returns : goal.returns
 unfolding velocity_on of_bits of_int
 returns c =
-    let past = c in
-    simp (c.plus-2.ensures, c.times-4.ensures, c.plus-bent.ensures, c.times-3.ensures, c.plus.ensures, c.times-2.ensures, c.plus-course.ensures, past.times.ensures)
+    simp (c.plus-2.ensures, c.times-4.ensures, c.plus-bent.ensures, c.times-3.ensures, c.plus.ensures, c.times-2.ensures, c.plus-course.ensures, c.times.ensures)

@@ -13,15 +13,15 @@ run_of-run-requires c = sym c.is_known.ensures ∙ c.if-is_known.true
 
 pub returns-then-is_sound : goal.returns-then-is_sound
 unfolding loaded judged is_stored_run taken_up
-returns-then-is_sound c = let past = c in let earlier = past in let w = sym earlier.read_into.ensures.value ∙ past.if-read_into.true in let e = earlier.read_into.ensures.content_after ∙ whole_taken _ _ w (length-replicate {A = ℕ} 504 0) in rw (w, ← e, sym past.is_known.ensures ∙ past.if-is_known.true, ← past.run_of-run.ensures, sym c.is_unused_zero.ensures ∙ c.if-is_unused_zero.true, sym c.is_sound.ensures ∙ c.if-is_sound.true, ← c.open_question-outcome.ensures)
+returns-then-is_sound c = let w = sym c.read_into.ensures.value ∙ c.if-read_into.true in let e = c.read_into.ensures.content_after ∙ whole_taken _ _ w (length-replicate {A = ℕ} 504 0) in rw (w, ← e, sym c.is_known.ensures ∙ c.if-is_known.true, ← c.run_of-run.ensures, sym c.is_unused_zero.ensures ∙ c.if-is_unused_zero.true, sym c.is_sound.ensures ∙ c.if-is_sound.true, ← c.open_question-outcome.ensures)
 
 pub returns-else-is_sound : goal.returns-else-is_sound
 unfolding loaded judged is_stored_run refusing
-returns-else-is_sound c = let past = c in let w = sym past.read_into.ensures.value ∙ past.if-read_into.true in let e = past.read_into.ensures.content_after ∙ whole_taken _ _ w (length-replicate {A = ℕ} 504 0) in rw (w, ← e, sym past.is_known.ensures ∙ past.if-is_known.true, ← c.run_of-run.ensures, sym c.is_unused_zero.ensures ∙ c.if-is_unused_zero.true, sym c.is_sound.ensures ∙ c.if-is_sound.false)
+returns-else-is_sound c = let w = sym c.read_into.ensures.value ∙ c.if-read_into.true in let e = c.read_into.ensures.content_after ∙ whole_taken _ _ w (length-replicate {A = ℕ} 504 0) in rw (w, ← e, sym c.is_known.ensures ∙ c.if-is_known.true, ← c.run_of-run.ensures, sym c.is_unused_zero.ensures ∙ c.if-is_unused_zero.true, sym c.is_sound.ensures ∙ c.if-is_sound.false)
 
 pub returns-else-is_unused_zero : goal.returns-else-is_unused_zero
 unfolding loaded judged is_stored_run refusing
-returns-else-is_unused_zero c = let past = c in let w = sym past.read_into.ensures.value ∙ past.if-read_into.true in let e = past.read_into.ensures.content_after ∙ whole_taken _ _ w (length-replicate {A = ℕ} 504 0) in rw (w, ← e, sym past.is_known.ensures ∙ c.if-is_known.true, ← c.run_of-run.ensures, sym c.is_unused_zero.ensures ∙ c.if-is_unused_zero.false)
+returns-else-is_unused_zero c = let w = sym c.read_into.ensures.value ∙ c.if-read_into.true in let e = c.read_into.ensures.content_after ∙ whole_taken _ _ w (length-replicate {A = ℕ} 504 0) in rw (w, ← e, sym c.is_known.ensures ∙ c.if-is_known.true, ← c.run_of-run.ensures, sym c.is_unused_zero.ensures ∙ c.if-is_unused_zero.false)
 
 pub returns-else-is_known : goal.returns-else-is_known
 unfolding loaded judged is_stored_run refusing

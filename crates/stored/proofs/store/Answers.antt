@@ -8,11 +8,11 @@ content_of_run-words-requires c = sym c.is_sound.ensures ∙ c.if-is_sound.true
 
 pub returns-then-write_to : goal.returns-then-write_to
 unfolding storing stored_in
-returns-then-write_to c = let past = c in record { value = rw (sym past.is_sound.ensures ∙ past.if-is_sound.true, sym c.write_to.ensures.value ∙ c.if-write_to.true); out_after = rw (sym past.is_sound.ensures ∙ past.if-is_sound.true, ← past.content_of_run-words.ensures) c.write_to.ensures.out_after }
+returns-then-write_to c = record { value = rw (sym c.is_sound.ensures ∙ c.if-is_sound.true, sym c.write_to.ensures.value ∙ c.if-write_to.true); out_after = rw (sym c.is_sound.ensures ∙ c.if-is_sound.true, ← c.content_of_run-words.ensures) c.write_to.ensures.out_after }
 
 pub returns-then-is_sound : goal.returns-then-is_sound
 unfolding storing stored_in
-returns-then-is_sound c = let past = c in record { value = rw (sym past.is_sound.ensures ∙ past.if-is_sound.true, sym c.write_to.ensures.value ∙ c.if-write_to.false); out_after = rw (sym past.is_sound.ensures ∙ past.if-is_sound.true, ← past.content_of_run-words.ensures) c.write_to.ensures.out_after }
+returns-then-is_sound c = record { value = rw (sym c.is_sound.ensures ∙ c.if-is_sound.true, sym c.write_to.ensures.value ∙ c.if-write_to.false); out_after = rw (sym c.is_sound.ensures ∙ c.if-is_sound.true, ← c.content_of_run-words.ensures) c.write_to.ensures.out_after }
 
 pub returns : goal.returns
 unfolding storing stored_in

@@ -5,5 +5,4 @@ use Rattle.app.proofs.lending.stepped_reply.Goals as goal
 pub returns : goal.returns
 unfolding stepped_reply
 returns c =
-    let past = c in
-    (simp (c.asks_for-reply.ensures, past.make_step-done.ensures.0), past.make_step-done.ensures.1)
+    (simp (c.asks_for-reply.ensures, c.make_step-done.ensures.0), c.make_step-done.ensures.1)

@@ -8,14 +8,13 @@ use Rattle.blocks.proofs.reading.read_form.Goals as goal
 pub returns : goal.returns
 unfolding is_whole
 returns c =
-    let start = c in
     let first = c.read_block-first.ensures in
     let second = c.read_block-second.ensures in
     let third = c.read_block-third.ensures in
     let fourth = c.read_block-fourth.ensures in
-    let f = content_at start.args.bytes.now in record {
-      value = simp (eq-eqb _ _ start.requires, first.value, second.value, third.value, fourth.value);
+    let f = content_at c.args.bytes.now in record {
+      value = simp (eq-eqb _ _ c.requires, first.value, second.value, third.value, fourth.value);
       content_after = fourth.content_after
           ∙ ap (filled_from f 378 126) (third.content_after ∙ ap (filled_from f 252 126) (second.content_after ∙ ap (filled_from f 126 126) first.content_after))
-          ∙ four_filled f start.args.content.now;
+          ∙ four_filled f c.args.content.now;
     }

@@ -7,11 +7,8 @@ use Rattle.blocks.proofs.writing.write_block.Goals as goal
 
 pub returns : goal.returns
 returns c =
-    let last = c in
-    let middle = last in
-    let first = middle in
-    let args = first.args in
+    let args = c.args in
     let words = put_words (form_word args.content.now) (128 * args.b + 1) 126 in
-    last.put_word-2.ensures
-    ∙ ap₂ (λ (l : List ℕ) (sum : ℕ). put_word l (128 * args.b + 127) sum) (middle.write_content-sum.ensures.out_after ∙ ap words first.put_word.ensures) middle.write_content-sum.ensures.value
+    c.put_word-2.ensures
+    ∙ ap₂ (λ (l : List ℕ) (sum : ℕ). put_word l (128 * args.b + 127) sum) (c.write_content-sum.ensures.out_after ∙ ap words c.put_word.ensures) c.write_content-sum.ensures.value
     ∙ block_put args.content.now args.b args.out.now

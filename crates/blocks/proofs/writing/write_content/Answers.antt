@@ -11,17 +11,16 @@ loop-j-init c = (search rules, search rules, omega arith, refl)
 
 pub loop-j-preserved : goal.loop-j-preserved
 loop-j-preserved c =
-    let at = c in
-    let args = at.args in
+    let args = c.args in
     let word = form_word args.content.now in
     let put = c.put_word.ensures in
-    let e : suc at.loop-j.j ≡ at.loop-j.j + 1 = omega arith in (
+    let e : suc c.loop-j.j ≡ c.loop-j.j + 1 = omega arith in (
       search rules,
       simp (put, length_put) (search rules),
-      rw add-one (let h = check_more args.content.now args.b at.loop-j.j in cc),
+      rw add-one (let h = check_more args.content.now args.b c.loop-j.j in cc),
       put
-          ∙ ap (λ (l : List ℕ). put_word l (128 * args.b + 1 + at.loop-j.j) (get_or args.content.now (126 * args.b + at.loop-j.j) 0)) at.loop-j.invariant.3
-          ∙ sym (puts_more args.content.now args.b at.loop-j.j args.out.now (omega arith))
+          ∙ ap (λ (l : List ℕ). put_word l (128 * args.b + 1 + c.loop-j.j) (get_or args.content.now (126 * args.b + c.loop-j.j) 0)) c.loop-j.invariant.3
+          ∙ sym (puts_more args.content.now args.b c.loop-j.j args.out.now (omega arith))
           ∙ ap (λ (n : ℕ). put_words word (128 * args.b + 1) n args.out.now) e,
     )
 

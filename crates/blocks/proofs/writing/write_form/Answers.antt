@@ -7,10 +7,7 @@ use Rattle.blocks.proofs.writing.write_form.Goals as goal
 
 pub returns : goal.returns
 returns c =
-    let third = c in
-    let first = third in
-    let start = first in
-    let words = put_words (form_word start.args.content.now) in
+    let words = put_words (form_word c.args.content.now) in
     c.write_block-4.ensures
-    ∙ ap (words 384 128) (third.write_block-3.ensures ∙ ap (words 256 128) (third.write_block-2.ensures ∙ ap (words 128 128) first.write_block.ensures))
-    ∙ form_put start.args.content.now start.args.out.now start.requires
+    ∙ ap (words 384 128) (c.write_block-3.ensures ∙ ap (words 256 128) (c.write_block-2.ensures ∙ ap (words 128 128) c.write_block.ensures))
+    ∙ form_put c.args.content.now c.args.out.now c.requires

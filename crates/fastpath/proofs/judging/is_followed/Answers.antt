@@ -18,5 +18,4 @@ returns-then-n-plan c = rw (← c.wants_samples-wanted.ensures, sym c.has_place.
 pub returns : goal.returns
 unfolding is_followed
 returns c =
-    let past = c in
-    rw (← past.wants_samples-wanted.ensures, sym c.has_place.ensures ∙ c.if-not-has_place.false, sym c.is_due.ensures ∙ c.if-not-is_due.false, lt-ltb _ _ c.if-n-plan.false, ← c.is_tail.ensures)
+    rw (← c.wants_samples-wanted.ensures, sym c.has_place.ensures ∙ c.if-not-has_place.false, sym c.is_due.ensures ∙ c.if-not-is_due.false, lt-ltb _ _ c.if-n-plan.false, ← c.is_tail.ensures)

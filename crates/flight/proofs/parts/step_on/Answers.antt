@@ -14,12 +14,10 @@ one_at_most false = omega arith
 pub overflow_add-result : goal.overflow_add-result
 unfolding made_step
 overflow_add-result c =
-    let past = c in
-    let h : past.make_step-done.result.stored ≤ 1 = rw past.make_step-done.ensures.0 (one_at_most _) in
-    omega (arith, h, past.requires)
+    let h : c.make_step-done.result.stored ≤ 1 = rw c.make_step-done.ensures.0 (one_at_most _) in
+    omega (arith, h, c.requires)
 
 pub returns : goal.returns
 unfolding stepped_parts
 returns c =
-    let past = c in
-    (simp past.make_step-done.ensures.0, past.make_step-done.ensures.1)
+    (simp c.make_step-done.ensures.0, c.make_step-done.ensures.1)

@@ -17,17 +17,16 @@ loop-i-init c =
 pub loop-i-preserved : goal.loop-i-preserved
 loop-i-preserved c =
     let put = c.put_line-at.ensures in
-    let at = c in
-    let args = at.args in
-    let pre = at.requires in
+    let args = c.args in
+    let pre = c.requires in
     let less = c.loop-i-test.true in
-    let inv = at.loop-i.invariant in
-    let fits : at.loop-i.at + 191 ≤ length at.loop-i.out = omega (arith, inv.1, inv.2, pre.1, pre.3, less) in (
+    let inv = c.loop-i.invariant in
+    let fits : c.loop-i.at + 191 ≤ length c.loop-i.out = omega (arith, inv.1, inv.2, pre.1, pre.3, less) in (
       omega arith,
-      omega (arith, put.value, more_most args.count args.from args.room.now pre.2 at.loop-i.i at.loop-i.at at.loop-i.out less fits, inv.1),
-      ap (λ (l : List ℕ). length l) put.out_after ∙ more_same args.count args.from args.room.now pre.2 at.loop-i.i at.loop-i.at at.loop-i.out less fits ∙ inv.2,
-      rw (put.value, put.out_after) (more_put args.count args.from args.room.now pre.2 at.loop-i.i at.loop-i.at at.loop-i.out less fits ∙ inv.3),
-      rw put.value (more_length args.count args.from args.room.now pre.2 at.loop-i.i at.loop-i.at at.loop-i.out less fits ∙ inv.4),
+      omega (arith, put.value, more_most args.count args.from args.room.now pre.2 c.loop-i.i c.loop-i.at c.loop-i.out less fits, inv.1),
+      ap (λ (l : List ℕ). length l) put.out_after ∙ more_same args.count args.from args.room.now pre.2 c.loop-i.i c.loop-i.at c.loop-i.out less fits ∙ inv.2,
+      rw (put.value, put.out_after) (more_put args.count args.from args.room.now pre.2 c.loop-i.i c.loop-i.at c.loop-i.out less fits ∙ inv.3),
+      rw put.value (more_length args.count args.from args.room.now pre.2 c.loop-i.i c.loop-i.at c.loop-i.out less fits ∙ inv.4),
     )
 
 pub shape_of-out : goal.shape_of-out
@@ -35,11 +34,10 @@ shape_of-out c = c.loop-i.invariant.2
 
 pub returns : goal.returns
 returns c =
-    let at = c in
-    let args = at.args in
-    let pre = at.requires in
-    let inv = at.loop-i.invariant in
-    let left = none_left args.count args.from args.room.now pre.2 at.loop-i.i at.loop-i.at at.loop-i.out c.loop-i-test.false in
+    let args = c.args in
+    let pre = c.requires in
+    let inv = c.loop-i.invariant in
+    let left = none_left args.count args.from args.room.now pre.2 c.loop-i.i c.loop-i.at c.loop-i.out c.loop-i-test.false in
     record { value = (omega (arith, inv.4, left.1), omega (arith, inv.0, inv.1, pre.1)); out_after = sym left.0 ∙ inv.3 }
 
 pub overflow_add-from : goal.overflow_add-from

@@ -18,9 +18,8 @@ returns-then-ending-eq0 c =
 pub returns : goal.returns
 unfolding ending_line
 returns c =
-    let past = c in
-    let put = past.put_entries-at.ensures in
-    let pre = past.requires in
+    let put = c.put_entries-at.ensures in
+    let pre = c.requires in
     let told = c.put_refusal.ensures in
-    rw (past.if-asks.false, ne_eqb _ _ past.if-ending-eq0.false)
+    rw (c.if-asks.false, ne_eqb _ _ c.if-ending-eq0.false)
     (let x = refusal_more _ _ _ _ _ _ _ put.value.0 put.value.1 put.out_after pre.3 told.value told.out_after in record { value = x.0; out_after = x.1 })

@@ -11,5 +11,4 @@ returns-then-not-has_place c = no_room _ _ _ _ _ _ _ _ c.wants_samples-wanted.en
 pub returns : goal.returns
 unfolding startup_ended
 returns c =
-    let past = c in
-    rw (← c.launch.ensures, ← c.onward.ensures) (stored_points _ _ _ _ _ _ past.wants_samples-wanted.ensures past.has_place.ensures _ _ (past.if-not-has_place.false) c.keep_points.ensures c.tell_stored.ensures)
+    rw (← c.launch.ensures, ← c.onward.ensures) (stored_points _ _ _ _ _ _ c.wants_samples-wanted.ensures c.has_place.ensures _ _ (c.if-not-has_place.false) c.keep_points.ensures c.tell_stored.ensures)

@@ -10,6 +10,4 @@ returns-then-not-has_place c = no_room _ _ _ _ _ _ _ _ c.wants_samples-wanted.en
 pub returns : goal.returns
 unfolding step_ended
 returns c =
-    let past = c in
-    let far = past in
-    rw (← past.step_sample.ensures, ← c.onward.ensures) (stored_one _ _ _ _ _ _ _ _ far.wants_samples-wanted.ensures far.has_place.ensures _ _ (far.if-not-has_place.false) c.keep_sample.ensures c.tell_stored.ensures)
+    rw (← c.step_sample.ensures, ← c.onward.ensures) (stored_one _ _ _ _ _ _ _ _ c.wants_samples-wanted.ensures c.has_place.ensures _ _ (c.if-not-has_place.false) c.keep_sample.ensures c.tell_stored.ensures)

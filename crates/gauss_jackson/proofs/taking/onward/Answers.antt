@@ -14,11 +14,9 @@ returns-then-track-b c = rw (sym c.is_due.ensures ∙ c.if-not-is_due.false, le-
 pub returns-then-is_tail : goal.returns-then-is_tail
 unfolding onward
 returns-then-is_tail c =
-    let past = c in
-    rw (sym past.is_due.ensures ∙ c.if-not-is_due.false, lt-ltb _ _ c.if-track-b.false, sym c.is_tail.ensures ∙ c.if-is_tail.true) c.ask.ensures
+    rw (sym c.is_due.ensures ∙ c.if-not-is_due.false, lt-ltb _ _ c.if-track-b.false, sym c.is_tail.ensures ∙ c.if-is_tail.true) c.ask.ensures
 
 pub returns : goal.returns
 unfolding onward
 returns c =
-    let past = c in
-    rw (sym past.is_due.ensures ∙ past.if-not-is_due.false, lt-ltb _ _ c.if-track-b.false, sym c.is_tail.ensures ∙ c.if-is_tail.false, ← c.predict.ensures) c.ask-2.ensures
+    rw (sym c.is_due.ensures ∙ c.if-not-is_due.false, lt-ltb _ _ c.if-track-b.false, sym c.is_tail.ensures ∙ c.if-is_tail.false, ← c.predict.ensures) c.ask-2.ensures

@@ -11,8 +11,7 @@ returns-then-n-b c = rw (le-ltb _ _ c.if-n-b.true, ← c.commit.ensures) c.end_s
 pub returns-then-is_at_rest : goal.returns-then-is_at_rest
 unfolding step_taken numbers_of
 returns-then-is_at_rest c =
-    let past = c in
-    rw (lt-ltb _ _ past.if-n-b.false, ← past.corrected-after.ensures, sym c.is_at_rest.ensures ∙ c.if-is_at_rest.true, ← c.commit-then-is_at_rest.ensures) c.end_step-then-is_at_rest.ensures
+    rw (lt-ltb _ _ c.if-n-b.false, ← c.corrected-after.ensures, sym c.is_at_rest.ensures ∙ c.if-is_at_rest.true, ← c.commit-then-is_at_rest.ensures) c.end_step-then-is_at_rest.ensures
 
 pub returns : goal.returns
 unfolding step_taken numbers_of

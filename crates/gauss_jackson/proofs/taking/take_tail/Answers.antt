@@ -15,5 +15,4 @@ returns-then-wants_samples c = rw (sym c.is_last.ensures ∙ c.if-not-is_last.fa
 pub returns : goal.returns
 unfolding rk4_taken tail_ended
 returns c =
-    let past = c in
-    rw (sym past.is_last.ensures ∙ c.if-not-is_last.false, ← c.end_of_tail-end_state.ensures, ← c.solution_of.ensures) (pick_false _ _ _ _ (sym c.wants_samples.ensures ∙ c.if-wants_samples.false) c.end.ensures)
+    rw (sym c.is_last.ensures ∙ c.if-not-is_last.false, ← c.end_of_tail-end_state.ensures, ← c.solution_of.ensures) (pick_false _ _ _ _ (sym c.wants_samples.ensures ∙ c.if-wants_samples.false) c.end.ensures)

@@ -5,8 +5,7 @@ use Rattle.intervals.proofs.table.sample_of.Goals as goal
 
 pub returns-then-n-samples : goal.returns-then-n-samples
 returns-then-n-samples c =
-    let past = c in
-    sym (sample_here _ _ past.if-n-samples.true)
+    sym (sample_here _ _ c.if-n-samples.true)
 
 pub returns : goal.returns
 returns c = c.none.ensures ∙ sym (no_sample_lem _ _ c.if-n-samples.false)

@@ -24,50 +24,37 @@ loop-i-init c = let text = c.args.text.now in (search rules, refl, first_lines t
 
 pub returns-then-not-word : goal.returns-then-not-word
 returns-then-not-word c =
-    let word = c in
-    let at = word in
-    let start = at in
-    let text = start.args.text.now in
-    let i = at.loop-i.i in
-    let d = told text (17 * i) word.sixteen-word.result word.sixteen-word.ensures ∙ not-true _ c.if-not-word.true in
-    c.none.ensures ∙ sym (not_nine text (at.loop-i.invariant.2 ∙ no_digits text start.requires.0 start.requires.1 i (omega arith) d))
+    let text = c.args.text.now in
+    let i = c.loop-i.i in
+    let d = told text (17 * i) c.sixteen-word.result c.sixteen-word.ensures ∙ not-true _ c.if-not-word.true in
+    c.none.ensures ∙ sym (not_nine text (c.loop-i.invariant.2 ∙ no_digits text c.requires.0 c.requires.1 i (omega arith) d))
 
 pub returns-then-not-is_end : goal.returns-then-not-is_end
 returns-then-not-is_end c =
-    let end = c in
-    let word = end in
-    let at = word in
-    let start = at in
-    let text = start.args.text.now in
-    let i = at.loop-i.i in
-    let d = told text (17 * i) word.sixteen-word.result word.sixteen-word.ensures ∙ not-false _ end.if-not-word.false in
-    let e = sym end.is_end.ensures ∙ c.if-not-is_end.true in
-    c.none-then-not-is_end.ensures ∙ sym (not_nine text (at.loop-i.invariant.2 ∙ no_end text start.requires.0 start.requires.1 i (omega arith) d e))
+    let text = c.args.text.now in
+    let i = c.loop-i.i in
+    let d = told text (17 * i) c.sixteen-word.result c.sixteen-word.ensures ∙ not-false _ c.if-not-word.false in
+    let e = sym c.is_end.ensures ∙ c.if-not-is_end.true in
+    c.none-then-not-is_end.ensures ∙ sym (not_nine text (c.loop-i.invariant.2 ∙ no_end text c.requires.0 c.requires.1 i (omega arith) d e))
 
 pub loop-i-preserved : goal.loop-i-preserved
 loop-i-preserved c =
-    let end = c in
-    let word = end in
-    let at = word in
-    let start = at in
-    let text = start.args.text.now in
-    let i = at.loop-i.i in
+    let text = c.args.text.now in
+    let i = c.loop-i.i in
     let h : i < 9 = omega arith in
-    let d = told text (17 * i) word.sixteen-word.result word.sixteen-word.ensures ∙ not-false _ end.if-not-word.false in
-    let e = sym end.is_end.ensures ∙ c.if-not-is_end.false in
-    let put : Sixteen → List ℕ = λ (s : Sixteen). over (i + 1) (patterns_of (9 - (i + 1)) (drop (17 * (i + 1)) (ended text))) (set at.loop-i.numbers i s.value) in (
+    let d = told text (17 * i) c.sixteen-word.result c.sixteen-word.ensures ∙ not-false _ c.if-not-word.false in
+    let e = sym c.is_end.ensures ∙ c.if-not-is_end.false in
+    let put : Sixteen → List ℕ = λ (s : Sixteen). over (i + 1) (patterns_of (9 - (i + 1)) (drop (17 * (i + 1)) (ended text))) (set c.loop-i.numbers i s.value) in (
       search rules,
-      simp length-set at.loop-i.invariant.1,
-      at.loop-i.invariant.2 ∙ next_lines text start.requires.0 start.requires.1 i h d e,
-      ap put word.sixteen-word.ensures ∙ next_number text start.requires.0 start.requires.1 i h d at.loop-i.numbers ∙ at.loop-i.invariant.3,
+      simp length-set c.loop-i.invariant.1,
+      c.loop-i.invariant.2 ∙ next_lines text c.requires.0 c.requires.1 i h d e,
+      ap put c.sixteen-word.ensures ∙ next_number text c.requires.0 c.requires.1 i h d c.loop-i.numbers ∙ c.loop-i.invariant.3,
     )
 
 pub returns : goal.returns
 returns c =
-    let at = c in
-    let start = at in
-    let text = start.args.text.now in
-    let e : at.loop-i.i ≡ 9 = omega arith in
-    let n = all_numbers text start.requires.0 start.requires.1 at.loop-i.i e at.loop-i.numbers ∙ at.loop-i.invariant.3 in
+    let text = c.args.text.now in
+    let e : c.loop-i.i ≡ 9 = omega arith in
+    let n = all_numbers text c.requires.0 c.requires.1 c.loop-i.i e c.loop-i.numbers ∙ c.loop-i.invariant.3 in
     ap (λ (l : List ℕ). record { ok = true; numbers = l }) n
-    ∙ sym (is_nine_lem text (at.loop-i.invariant.2 ∙ no_line_left text start.requires.0 start.requires.1 at.loop-i.i e))
+    ∙ sym (is_nine_lem text (c.loop-i.invariant.2 ∙ no_line_left text c.requires.0 c.requires.1 c.loop-i.i e))

@@ -17,39 +17,31 @@ loop-i-init c =
 
 pub returns-then-d-gt15 : goal.returns-then-d-gt15
 returns-then-d-gt15 c =
-    let digit = c in
-    let at = digit in
-    let start = at in
-    let args = start.args in
-    sym (not_hex args.text.now args.at start.requires (at.loop-i.invariant.2 ∙ bad_digit args.text.now args.at at.loop-i.i digit.digit_of-d.result (omega arith) start.requires digit.digit_of-d.ensures c.if-d-gt15.true))
+    let args = c.args in
+    sym (not_hex args.text.now args.at c.requires (c.loop-i.invariant.2 ∙ bad_digit args.text.now args.at c.loop-i.i c.digit_of-d.result (omega arith) c.requires c.digit_of-d.ensures c.if-d-gt15.true))
 
 pub overflow_mul-value : goal.overflow_mul-value
-overflow_mul-value c = let at = c in omega (arith, small at.loop-i.value at.loop-i.i at.loop-i.invariant.1 (omega arith))
+overflow_mul-value c = omega (arith, small c.loop-i.value c.loop-i.i c.loop-i.invariant.1 (omega arith))
 
 pub overflow_add-value : goal.overflow_add-value
-overflow_add-value c = let at = c in omega (arith, small at.loop-i.value at.loop-i.i at.loop-i.invariant.1 (omega arith))
+overflow_add-value c = omega (arith, small c.loop-i.value c.loop-i.i c.loop-i.invariant.1 (omega arith))
 
 pub loop-i-preserved : goal.loop-i-preserved
 loop-i-preserved c =
-    let digit = c in
-    let at = digit in
-    let start = at in
-    let args = start.args in
+    let args = c.args in
     let text = args.text.now in
-    let d = digit.digit_of-d.result in
-    let h : at.loop-i.i < 16 = omega arith in (
+    let d = c.digit_of-d.result in
+    let h : c.loop-i.i < 16 = omega arith in (
       search rules,
-      one_larger at.loop-i.value d at.loop-i.i at.loop-i.invariant.1 c.if-d-gt15.false,
-      at.loop-i.invariant.2 ∙ good_digit text args.at at.loop-i.i d h start.requires digit.digit_of-d.ensures c.if-d-gt15.false,
-      next_value text args.at at.loop-i.i d h start.requires digit.digit_of-d.ensures at.loop-i.value ∙ at.loop-i.invariant.3,
+      one_larger c.loop-i.value d c.loop-i.i c.loop-i.invariant.1 c.if-d-gt15.false,
+      c.loop-i.invariant.2 ∙ good_digit text args.at c.loop-i.i d h c.requires c.digit_of-d.ensures c.if-d-gt15.false,
+      next_value text args.at c.loop-i.i d h c.requires c.digit_of-d.ensures c.loop-i.value ∙ c.loop-i.invariant.3,
     )
 
 pub returns : goal.returns
 returns c =
-    let at = c in
-    let start = at in
-    let args = start.args in
+    let args = c.args in
     let text = args.text.now in
-    let e : at.loop-i.i ≡ 16 = omega arith in
-    let v = whole_value text args.at at.loop-i.i at.loop-i.value e ∙ at.loop-i.invariant.3 in
-    sym (is_hex text args.at start.requires (at.loop-i.invariant.2 ∙ no_digit_left text args.at at.loop-i.i e) ∙ ap (λ (x : ℕ). record { ok = true; value = x }) (sym v))
+    let e : c.loop-i.i ≡ 16 = omega arith in
+    let v = whole_value text args.at c.loop-i.i c.loop-i.value e ∙ c.loop-i.invariant.3 in
+    sym (is_hex text args.at c.requires (c.loop-i.invariant.2 ∙ no_digit_left text args.at c.loop-i.i e) ∙ ap (λ (x : ℕ). record { ok = true; value = x }) (sym v))

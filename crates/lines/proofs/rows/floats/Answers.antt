@@ -18,15 +18,13 @@ hex-requires c = simp length-set (omega arith)
 
 pub loop-i-preserved : goal.loop-i-preserved
 loop-i-preserved c =
-    let bits = c in
-    let at = bits in
-    let args = at.args in
+    let args = c.args in
     let put = c.hex.ensures in (
       search rules,
-      simp (put, length_over, length-set) at.loop-i.invariant.1,
-      ap (over (args.at + 17 * (at.loop-i.i + 1)) (floats_of (take (10 - (at.loop-i.i + 1)) (drop (args.first + (at.loop-i.i + 1)) args.numbers.now)))) put
-          ∙ next_float args.numbers.now args.first at.loop-i.i args.at bits.bits_of.result at.loop-i.out (omega arith) (omega arith) bits.bits_of.ensures
-          ∙ at.loop-i.invariant.2,
+      simp (put, length_over, length-set) c.loop-i.invariant.1,
+      ap (over (args.at + 17 * (c.loop-i.i + 1)) (floats_of (take (10 - (c.loop-i.i + 1)) (drop (args.first + (c.loop-i.i + 1)) args.numbers.now)))) put
+          ∙ next_float args.numbers.now args.first c.loop-i.i args.at c.bits_of.result c.loop-i.out (omega arith) (omega arith) c.bits_of.ensures
+          ∙ c.loop-i.invariant.2,
     )
 
 pub shape_of-out : goal.shape_of-out
@@ -34,6 +32,5 @@ shape_of-out c = c.loop-i.invariant.1
 
 pub returns : goal.returns
 returns c =
-    let at = c in
-    let args = at.args in
-    ten_floats args.numbers.now args.first at.loop-i.i args.at at.loop-i.out (omega arith) ∙ at.loop-i.invariant.2
+    let args = c.args in
+    ten_floats args.numbers.now args.first c.loop-i.i args.at c.loop-i.out (omega arith) ∙ c.loop-i.invariant.2

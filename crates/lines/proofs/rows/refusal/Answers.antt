@@ -9,9 +9,8 @@ use Rattle.lines.proofs.rows.refusal.Goals as goal
 
 pub returns : goal.returns
 returns c =
-    let start = c in
-    let args = start.args in record {
+    let args = c.args in record {
       value = omega arith;
       out_after = ap (λ (l : List ℕ). set l (args.at + args.k) 10) c.decimal.ensures
-          ∙ refusal_over args.n args.k args.at args.out.now start.requires.0;
+          ∙ refusal_over args.n args.k args.at args.out.now c.requires.0;
     }

@@ -18,14 +18,12 @@ shape_of-out c =
 
 pub returns : goal.returns
 returns c =
-    let decimal = c in
-    let places = decimal.places-k in
-    let start = decimal in
-    let args = start.args in
+    let places = c.places-k in
+    let args = c.args in
     let ten = floats_of (ten_from args.first args.numbers.now) in
-    let e = length_sample args.n places.result args.numbers.now args.first places.ensures.0 start.requires.0 in record {
+    let e = length_sample args.n places.result args.numbers.now args.first places.ensures.0 c.requires.0 in record {
       value = omega (arith, e);
       out_after = ap (λ (l : List ℕ). set l (args.at + places.result + 170) 10)
-          (c.floats.ensures ∙ ap (over (args.at + places.result) ten) decimal.decimal.ensures)
-          ∙ sample_over args.n places.result args.at args.numbers.now args.first args.out.now places.ensures.0 start.requires.0;
+          (c.floats.ensures ∙ ap (over (args.at + places.result) ten) c.decimal.ensures)
+          ∙ sample_over args.n places.result args.at args.numbers.now args.first args.out.now places.ensures.0 c.requires.0;
     }

@@ -13,18 +13,16 @@ pub bounds-out-at : goal.bounds-out-at
 bounds-out-at c = omega arith
 
 pub loop-i-preserved : goal.loop-i-preserved
-loop-i-preserved c =
-    let at = c in (
-      search rules,
-      simp length-set at.loop-i.invariant.1,
-      one_turn at.loop-i.i at.loop-i.rest at.args.at at.loop-i.out c.loop-i-test.true
-          ∙ at.loop-i.invariant.2,
-    )
+loop-i-preserved c = (
+  search rules,
+  simp length-set c.loop-i.invariant.1,
+  one_turn c.loop-i.i c.loop-i.rest c.args.at c.loop-i.out c.loop-i-test.true
+      ∙ c.loop-i.invariant.2,
+)
 
 pub shape_of-out : goal.shape_of-out
 shape_of-out c = c.loop-i.invariant.1
 
 pub returns : goal.returns
 returns c =
-    let at = c in
-    none_left at.loop-i.i at.loop-i.rest at.args.at at.loop-i.out (omega arith) ∙ at.loop-i.invariant.2
+    none_left c.loop-i.i c.loop-i.rest c.args.at c.loop-i.out (omega arith) ∙ c.loop-i.invariant.2

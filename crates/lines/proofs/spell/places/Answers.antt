@@ -11,15 +11,13 @@ loop-k-init c = (search rules, refl)
 
 pub returns-then-rest-lt10 : goal.returns-then-rest-lt10
 returns-then-rest-lt10 c =
-    let at = c in
-    let e = last_place (20 - at.loop-k.k) at.loop-k.rest c.if-rest-lt10.true in
+    let e = last_place (20 - c.loop-k.k) c.loop-k.rest c.if-rest-lt10.true in
     (omega arith, omega arith)
 
 pub loop-k-preserved : goal.loop-k-preserved
-loop-k-preserved c = let at = c in (search rules, next_place at.loop-k.k at.loop-k.rest (omega arith) c.if-rest-lt10.false ∙ at.loop-k.invariant.1)
+loop-k-preserved c = (search rules, next_place c.loop-k.k c.loop-k.rest (omega arith) c.if-rest-lt10.false ∙ c.loop-k.invariant.1)
 
 pub returns : goal.returns
 returns c =
-    let at = c in
-    let e = no_place_left at.loop-k.k at.loop-k.rest (omega arith) in
+    let e = no_place_left c.loop-k.k c.loop-k.rest (omega arith) in
     (omega arith, omega arith)

@@ -29,18 +29,15 @@ overflow_add-least-3 c = omega (arith, c.fewest_for-fewest.ensures.1, (about_ste
 
 pub overflow_mul-corrected : goal.overflow_mul-corrected
 overflow_mul-corrected c =
-    let e = c in
-    omega (arith, corrected_small _ e.tail_for-tail.result _ (about_steps _ _ _ e.requires.0).small e.requires.1.passes)
+    omega (arith, corrected_small _ c.tail_for-tail.result _ (about_steps _ _ _ c.requires.0).small c.requires.1.passes)
 
 pub overflow_add-most-2 : goal.overflow_add-most-2
 overflow_add-most-2 c =
-    let e = c in
-    omega (arith, corrected_small _ e.tail_for-tail.result _ (about_steps _ _ _ e.requires.0).small e.requires.1.passes, e.requires.1.startups)
+    omega (arith, corrected_small _ c.tail_for-tail.result _ (about_steps _ _ _ c.requires.0).small c.requires.1.passes, c.requires.1.startups)
 
 pub overflow_add-most-3 : goal.overflow_add-most-3
 overflow_add-most-3 c =
-    let e = c in
-    omega (arith, corrected_small _ e.tail_for-tail.result _ (about_steps _ _ _ e.requires.0).small e.requires.1.passes, e.requires.1.startups, c.tail_answers-extra.ensures.1)
+    omega (arith, corrected_small _ c.tail_for-tail.result _ (about_steps _ _ _ c.requires.0).small c.requires.1.passes, c.requires.1.startups, c.tail_answers-extra.ensures.1)
 
 pub overflow_mul-result : goal.overflow_mul-result
 overflow_mul-result c = omega (arith, c.samples_for-samples.ensures.1, (about_steps _ _ _ c.requires.0).small)
@@ -48,5 +45,4 @@ overflow_mul-result c = omega (arith, c.samples_for-samples.ensures.1, (about_st
 pub returns : goal.returns
 unfolding cost_for least_before most_before least_for most_for plain_for tail_answers_for room_for
 returns c =
-    let e = c in
-    rw (c.samples_for-samples.ensures.0, c.fewest_for-fewest.ensures.0, c.tail_answers-extra.ensures.0, e.tail_for-tail.ensures.0, e.requires.0.2) refl
+    rw (c.samples_for-samples.ensures.0, c.fewest_for-fewest.ensures.0, c.tail_answers-extra.ensures.0, c.tail_for-tail.ensures.0, c.requires.0.2) refl

@@ -25,17 +25,14 @@ returns-then-m-e c = rw (eq-eqb _ _ c.if-m-ne6.false, le-leb _ _ c.if-m-gt3.fals
 pub returns-then-m-p : goal.returns-then-m-p
 unfolding is_open_step
 returns-then-m-p c =
-    let past = c in
-    rw (eq-eqb _ _ past.if-m-ne6.false, le-leb _ _ past.if-m-gt3.false, sym c.is_lawful.ensures ∙ c.if-not-is_lawful.false, eq-eqb _ _ c.if-m-e.false, lt-leb _ _ c.if-m-p.true)
+    rw (eq-eqb _ _ c.if-m-ne6.false, le-leb _ _ c.if-m-gt3.false, sym c.is_lawful.ensures ∙ c.if-not-is_lawful.false, eq-eqb _ _ c.if-m-e.false, lt-leb _ _ c.if-m-p.true)
 
 pub step_counts-requires : goal.step_counts-requires
 step_counts-requires c =
-    let past = c in
-    let z = to_small _ (sym past.is_lawful.ensures ∙ c.if-not-is_lawful.false) in
+    let z = to_small _ (sym c.is_lawful.ensures ∙ c.if-not-is_lawful.false) in
     (z, omega (arith, z.passes, c.if-m-p.false))
 
 pub returns : goal.returns
 unfolding is_open_step
 returns c =
-    let past = c in
-    rw (eq-eqb _ _ past.if-m-ne6.false, le-leb _ _ past.if-m-gt3.false, sym past.is_lawful.ensures ∙ past.if-not-is_lawful.false, eq-eqb _ _ c.if-m-e.false, le-leb _ _ c.if-m-p.false) c.step_counts.ensures
+    rw (eq-eqb _ _ c.if-m-ne6.false, le-leb _ _ c.if-m-gt3.false, sym c.is_lawful.ensures ∙ c.if-not-is_lawful.false, eq-eqb _ _ c.if-m-e.false, le-leb _ _ c.if-m-p.false) c.step_counts.ensures

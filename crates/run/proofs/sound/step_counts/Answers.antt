@@ -36,13 +36,11 @@ returns-then-e-base c = rw (sym c.is_started_up.ensures ∙ c.if-not-is_started_
 
 pub overflow_mul-result : goal.overflow_mul-result
 overflow_mul-result c =
-    let past = c in
-    omega (arith, few _ _ c.if-n-s.false past.requires.0)
+    omega (arith, few _ _ c.if-n-s.false c.requires.0)
 
 pub overflow_add-result-2 : goal.overflow_add-result-2
 overflow_add-result-2 c =
-    let past = c in
-    omega (arith, (to_started _ _ (sym c.is_started_up.ensures ∙ c.if-not-is_started_up.false)).most, past.requires.0.startups, past.requires.1, few _ _ c.if-n-s.false past.requires.0)
+    omega (arith, (to_started _ _ (sym c.is_started_up.ensures ∙ c.if-not-is_started_up.false)).most, c.requires.0.startups, c.requires.1, few _ _ c.if-n-s.false c.requires.0)
 
 pub returns : goal.returns
 unfolding step_counts

@@ -5,5 +5,4 @@ use Rattle.startup.proofs.passes.last_sums.Goals as goal
 pub returns : goal.returns
 unfolding last_sums sums_on
 returns c =
-    let past = c in
-    simp (c.on-4.ensures, c.on-3.ensures, c.on-2.ensures, c.on.ensures, past.at_epoch.ensures, past.state_at-epoch.ensures)
+    simp (c.on-4.ensures, c.on-3.ensures, c.on-2.ensures, c.on.ensures, c.at_epoch.ensures, c.state_at-epoch.ensures)

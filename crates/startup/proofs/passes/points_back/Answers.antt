@@ -5,5 +5,4 @@ use Rattle.startup.proofs.passes.points_back.Goals as goal
 pub returns : goal.returns
 unfolding points_back point_back sums_back
 returns c =
-    let past = c in
-    simp (c.point_of-four.ensures, c.point_of-three.ensures, c.point_of-two.ensures, c.point_of-one.ensures, c.back-s0.ensures, c.back-s1.ensures, past.back-s2.ensures, past.back-s3.ensures)
+    simp (c.point_of-four.ensures, c.point_of-three.ensures, c.point_of-two.ensures, c.point_of-one.ensures, c.back-s0.ensures, c.back-s1.ensures, c.back-s2.ensures, c.back-s3.ensures)

@@ -5,5 +5,4 @@ use Rattle.startup.proofs.passes.points_on.Goals as goal
 pub returns : goal.returns
 unfolding points_on point_on sums_on
 returns c =
-    let past = c in
-    simp (c.point_of-four.ensures, c.point_of-three.ensures, c.point_of-two.ensures, c.point_of-one.ensures, c.on-s8.ensures, c.on-s7.ensures, past.on-s6.ensures, past.on-s5.ensures)
+    simp (c.point_of-four.ensures, c.point_of-three.ensures, c.point_of-two.ensures, c.point_of-one.ensures, c.on-s8.ensures, c.on-s7.ensures, c.on-s6.ensures, c.on-s5.ensures)

@@ -12,7 +12,7 @@ unfolding filled_from
 loop-q-init c = (search rules, refl)
 
 pub loop-q-preserved : goal.loop-q-preserved
-loop-q-preserved c = let past = c in let earlier = past in let h = six_floats earlier.args.u earlier.args.floats earlier.loop-q.q earlier.args.content.now in (search rules, cc)
+loop-q-preserved c = let h = six_floats c.args.u c.args.floats c.loop-q.q c.args.content.now in (search rules, cc)
 
 pub returns : goal.returns
 returns c = let e : 6 * c.loop-q.q ≡ 246 = omega arith in cc

@@ -17,16 +17,16 @@ returns-then-c-gt8 c = simp (lt-leb _ _ c.if-c-gt8.true, le-leb _ _ c.if-c-lt1.f
 
 pub returns-then-c-gt255 : goal.returns-then-c-gt255
 unfolding is_known
-returns-then-c-gt255 c = let past = c in simp (lt-leb _ _ c.if-c-gt255.true, le-leb _ _ c.if-c-gt8.false, le-leb _ _ c.if-c-lt1.false, eq-eqb _ _ past.if-c-ne1.false)
+returns-then-c-gt255 c = simp (lt-leb _ _ c.if-c-gt255.true, le-leb _ _ c.if-c-gt8.false, le-leb _ _ c.if-c-lt1.false, eq-eqb _ _ c.if-c-ne1.false)
 
 pub returns-then-c-gt255-2 : goal.returns-then-c-gt255-2
 unfolding is_known
-returns-then-c-gt255-2 c = let past = c in simp (lt-leb _ _ c.if-c-gt255-2.true, le-leb _ _ c.if-c-gt255.false, le-leb _ _ c.if-c-gt8.false, le-leb _ _ past.if-c-lt1.false, eq-eqb _ _ past.if-c-ne1.false)
+returns-then-c-gt255-2 c = simp (lt-leb _ _ c.if-c-gt255-2.true, le-leb _ _ c.if-c-gt255.false, le-leb _ _ c.if-c-gt8.false, le-leb _ _ c.if-c-lt1.false, eq-eqb _ _ c.if-c-ne1.false)
 
 pub returns-then-c-gt65535 : goal.returns-then-c-gt65535
 unfolding is_known
-returns-then-c-gt65535 c = let past = c in simp (lt-leb _ _ c.if-c-gt65535.true, le-leb _ _ c.if-c-gt255-2.false, le-leb _ _ c.if-c-gt255.false, le-leb _ _ past.if-c-gt8.false, le-leb _ _ past.if-c-lt1.false, eq-eqb _ _ past.if-c-ne1.false)
+returns-then-c-gt65535 c = simp (lt-leb _ _ c.if-c-gt65535.true, le-leb _ _ c.if-c-gt255-2.false, le-leb _ _ c.if-c-gt255.false, le-leb _ _ c.if-c-gt8.false, le-leb _ _ c.if-c-lt1.false, eq-eqb _ _ c.if-c-ne1.false)
 
 pub returns : goal.returns
 unfolding is_known
-returns c = let past = c in rw (le-leb _ _ c.if-c-gt65535.false, le-leb _ _ c.if-c-gt255-2.false, le-leb _ _ c.if-c-gt255.false, le-leb _ _ past.if-c-gt8.false, le-leb _ _ past.if-c-lt1.false, eq-eqb _ _ past.if-c-ne1.false)
+returns c = rw (le-leb _ _ c.if-c-gt65535.false, le-leb _ _ c.if-c-gt255-2.false, le-leb _ _ c.if-c-gt255.false, le-leb _ _ c.if-c-gt8.false, le-leb _ _ c.if-c-lt1.false, eq-eqb _ _ c.if-c-ne1.false)

@@ -17,8 +17,8 @@ pub overflow_cast-mark-4 : goal.overflow_cast-mark-4
 overflow_cast-mark-4 c = let k = known _ c.requires in omega (arith, k.number)
 
 pub overflow_cast-c : goal.overflow_cast-c
-overflow_cast-c c = let past = c in let k = known _ past.requires in omega (arith, k.flag)
+overflow_cast-c c = let k = known _ c.requires in omega (arith, k.flag)
 
 pub returns : goal.returns
 unfolding run_of counts_at
-returns c = let past = c in simp (c.body_from-body.ensures, c.triples_in.ensures, past.counts_at-counts.ensures)
+returns c = simp (c.body_from-body.ensures, c.triples_in.ensures, c.counts_at-counts.ensures)

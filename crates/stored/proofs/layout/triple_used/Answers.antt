@@ -29,12 +29,12 @@ returns-then-q-lt34 c = simp (lt-ltb _ _ c.if-q-lt34.true, le-ltb _ _ c.if-q-lt3
 
 pub returns-then-q-lt36 : goal.returns-then-q-lt36
 unfolding triple_used
-returns-then-q-lt36 c = let past = c in simp (lt-ltb _ _ c.if-q-lt36.true, le-ltb _ _ c.if-q-lt34.false, le-ltb _ _ c.if-q-lt32.false, le-ltb _ _ c.if-q-lt30.false, le-ltb _ _ c.if-q-lt27.false, le-ltb _ _ c.if-q-lt18.false, le-ltb _ _ past.if-q-lt9.false)
+returns-then-q-lt36 c = simp (lt-ltb _ _ c.if-q-lt36.true, le-ltb _ _ c.if-q-lt34.false, le-ltb _ _ c.if-q-lt32.false, le-ltb _ _ c.if-q-lt30.false, le-ltb _ _ c.if-q-lt27.false, le-ltb _ _ c.if-q-lt18.false, le-ltb _ _ c.if-q-lt9.false)
 
 pub returns-then-q-lt38 : goal.returns-then-q-lt38
 unfolding triple_used
-returns-then-q-lt38 c = let past = c in simp (lt-ltb _ _ c.if-q-lt38.true, le-ltb _ _ c.if-q-lt36.false, le-ltb _ _ c.if-q-lt34.false, le-ltb _ _ c.if-q-lt32.false, le-ltb _ _ c.if-q-lt30.false, le-ltb _ _ c.if-q-lt27.false, le-ltb _ _ past.if-q-lt18.false, le-ltb _ _ past.if-q-lt9.false)
+returns-then-q-lt38 c = simp (lt-ltb _ _ c.if-q-lt38.true, le-ltb _ _ c.if-q-lt36.false, le-ltb _ _ c.if-q-lt34.false, le-ltb _ _ c.if-q-lt32.false, le-ltb _ _ c.if-q-lt30.false, le-ltb _ _ c.if-q-lt27.false, le-ltb _ _ c.if-q-lt18.false, le-ltb _ _ c.if-q-lt9.false)
 
 pub returns : goal.returns
 unfolding triple_used
-returns c = let past = c in simp (le-ltb _ _ c.if-q-lt38.false, le-ltb _ _ c.if-q-lt36.false, le-ltb _ _ c.if-q-lt34.false, le-ltb _ _ c.if-q-lt32.false, le-ltb _ _ c.if-q-lt30.false, le-ltb _ _ c.if-q-lt27.false, le-ltb _ _ past.if-q-lt18.false, le-ltb _ _ past.if-q-lt9.false)
+returns c = simp (le-ltb _ _ c.if-q-lt38.false, le-ltb _ _ c.if-q-lt36.false, le-ltb _ _ c.if-q-lt34.false, le-ltb _ _ c.if-q-lt32.false, le-ltb _ _ c.if-q-lt30.false, le-ltb _ _ c.if-q-lt27.false, le-ltb _ _ c.if-q-lt18.false, le-ltb _ _ c.if-q-lt9.false)
