@@ -29,9 +29,5 @@ pub extern "C" fn probe_size(a: Triple) -> f64
 pub extern "C" fn probe_is_at_rest(tol: f64, before: State, after: State) -> u8
     ensures { result ≡ cond (is_at_rest tol before after) 1 0 }
 {
-    if conditions::is_at_rest(tol, before, after) {
-        1
-    } else {
-        0
-    }
+    u8::from(conditions::is_at_rest(tol, before, after))
 }
