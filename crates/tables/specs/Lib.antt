@@ -3,3 +3,5 @@ pub mod BRows
 pub mod Tables
 pub mod Nearest
 pub mod Mirror
+pub mod Stored
+pub mod Proved

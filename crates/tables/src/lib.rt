@@ -1,66 +1,69 @@
 // SPDX-License-Identifier: MIT OR Apache-2.0
 // The two tables of coefficients, total for every row and column: outside the table stands 0.0.
-// What is stored lies behind `a_row` and `b_row` alone; a row named by a literal folds into its caller.
+// What is stored lies behind `row` and `entry` alone; a row named by a literal folds into its caller.
 #![tactic(auto)]
 
-ghost use Rattle.std.specs.Prelude.{◌≡◌};
-ghost use Rattle.tables.specs.Tables.{a_at, b_at, a_row, b_row};
+ghost use Rattle.std.specs.Prelude.{◌≡◌, ℕ, List, Float};
+ghost use Rattle.tables.specs.Tables.{a_at, b_at, row_of};
+ghost use Rattle.tables.specs.Stored.{ten, IsStored};
+ghost use Rattle.tables.specs.Proved.{a_stored, b_stored};
 
 mod a_rows;
 mod b_rows;
 
 const OUTSIDE: [f64; 9] = [0.0, 0.0, 0.0, 0.0, 0.0, 0.0, 0.0, 0.0, 0.0];
 
-// Row i of table A, by which the accelerations go into the position.
-pub fn a_row(i: usize) -> [f64; 9]
-    ensures { result ≡ a_row i }
-{
-    match i {
-        0 => a_rows::A0,
-        1 => a_rows::A1,
-        2 => a_rows::A2,
-        3 => a_rows::A3,
-        4 => a_rows::A4,
-        5 => a_rows::A5,
-        6 => a_rows::A6,
-        7 => a_rows::A7,
-        8 => a_rows::A8,
-        9 => a_rows::A9,
-        _ => OUTSIDE,
-    }
+// One of the two tables: its ten rows as they are stored, and the coefficients that they are by definition.
+pub trait Table {
+    const ROWS: [[f64; 9]; 10];
+
+    ghost ROWS: { List (List Float) };
+
+    ghost at: { ℕ → ℕ → Float };
+
+    ghost as_stored: { IsStored ROWS at };
 }
 
-// Row i of table B, by which they go into the velocity.
-pub fn b_row(i: usize) -> [f64; 9]
-    ensures { result ≡ b_row i }
-{
-    match i {
-        0 => b_rows::B0,
-        1 => b_rows::B1,
-        2 => b_rows::B2,
-        3 => b_rows::B3,
-        4 => b_rows::B4,
-        5 => b_rows::B5,
-        6 => b_rows::B6,
-        7 => b_rows::B7,
-        8 => b_rows::B8,
-        9 => b_rows::B9,
-        _ => OUTSIDE,
-    }
+// Table A, by which the accelerations go into the position.
+pub struct A;
+
+// Table B, by which they go into the velocity.
+pub struct B;
+
+impl Table for A {
+    const ROWS: [[f64; 9]; 10] = [
+        a_rows::A0, a_rows::A1, a_rows::A2, a_rows::A3, a_rows::A4, a_rows::A5, a_rows::A6, a_rows::A7, a_rows::A8, a_rows::A9,
+    ];
+
+    ghost ROWS = { ten a_at };
+
+    ghost at = { a_at };
+
+    ghost as_stored = { a_stored };
 }
 
-// The coefficient in row i and column k of table A.
-pub fn a(i: usize, k: usize) -> f64
-    ensures { result ≡ a_at i k }
-{
-    let row = a_row(i);
-    if k < 9 { row[k] } else { 0.0 }
+impl Table for B {
+    const ROWS: [[f64; 9]; 10] = [
+        b_rows::B0, b_rows::B1, b_rows::B2, b_rows::B3, b_rows::B4, b_rows::B5, b_rows::B6, b_rows::B7, b_rows::B8, b_rows::B9,
+    ];
+
+    ghost ROWS = { ten b_at };
+
+    ghost at = { b_at };
+
+    ghost as_stored = { b_stored };
 }
 
-// The coefficient in row i and column k of table B.
-pub fn b(i: usize, k: usize) -> f64
-    ensures { result ≡ b_at i k }
+// Row i of a table.
+pub fn row<T: Table>(i: usize) -> [f64; 9]
+    ensures { result ≡ row_of T.at i }
 {
-    let row = b_row(i);
-    if k < 9 { row[k] } else { 0.0 }
+    T::ROWS.get(i).copied().unwrap_or(OUTSIDE)
+}
+
+// The coefficient in row i and column k of a table.
+pub fn entry<T: Table>(i: usize, k: usize) -> f64
+    ensures { result ≡ T.at i k }
+{
+    row::<T>(i).get(k).copied().unwrap_or(0.0)
 }
