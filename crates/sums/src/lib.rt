@@ -7,7 +7,7 @@ ghost use Rattle.std.specs.Prelude.{◌≡◌, min, length};
 ghost use Rattle.sums.specs.Weighted.{weighted, sum_of, fixed_sum};
 ghost use Rattle.sums.specs.Sums.{epoch_sums, on_sums, back_sums, point_of, predicted_state, fixed_of, corrected_state};
 
-use tables::{Table, A, B};
+use tables::{A, B, Table};
 use triple::{State, Triple};
 
 // The first sum s and the second, S, at one point.

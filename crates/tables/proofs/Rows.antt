@@ -8,8 +8,7 @@ use lib.Dec.{T, leb, leb→le, ltb, ltb→lt, nltb→le}
 use lib.ListN.{length, get_or, get_or-eq_default}
 use lib.Ieee.{Float}
 use Rattle.double.specs.Doubles.{nought}
-use Rattle.tables.specs.Tables.{nine}
-use Rattle.tables.specs.Stored.{ten, IsStored}
+use Rattle.tables.specs.Tables.{nine, ten}
 use Rattle.tables.proofs.Before.{a_bits, b_bits, entry}
 use Rattle.tables.proofs.Every.{one}
 
@@ -26,8 +25,8 @@ nine_at f h (suc (suc (suc (suc (suc (suc (suc zero))))))) = refl
 nine_at f h (suc (suc (suc (suc (suc (suc (suc (suc zero)))))))) = refl
 nine_at f h (suc (suc (suc (suc (suc (suc (suc (suc (suc k))))))))) = sym (h (suc (suc (suc (suc (suc (suc (suc (suc (suc k))))))))) (omega arith))
 
--- a row of ten, and so of a table
-ten_at : (at : ℕ → ℕ → Float) → ((i k : ℕ) → 10 ≤ i → at i k ≡ nought) → (i : ℕ) → get_or (ten at) i (nine (λ k. nought)) ≡ nine (at i)
+-- a row of ten
+pub ten_at : (at : ℕ → ℕ → Float) → ((i k : ℕ) → 10 ≤ i → at i k ≡ nought) → (i : ℕ) → get_or (ten at) i (nine (λ k. nought)) ≡ nine (at i)
 ten_at f h zero = refl
 ten_at f h (suc zero) = refl
 ten_at f h (suc (suc zero)) = refl
@@ -39,9 +38,6 @@ ten_at f h (suc (suc (suc (suc (suc (suc (suc zero))))))) = refl
 ten_at f h (suc (suc (suc (suc (suc (suc (suc (suc zero)))))))) = refl
 ten_at f h (suc (suc (suc (suc (suc (suc (suc (suc (suc zero))))))))) = refl
 ten_at f h (suc (suc (suc (suc (suc (suc (suc (suc (suc (suc i)))))))))) = ap nine (fun_ext (λ k. sym (h (suc (suc (suc (suc (suc (suc (suc (suc (suc (suc i)))))))))) k (omega arith))))
-
-pub row_at : {rows : List (List Float)} {at : ℕ → ℕ → Float} → IsStored rows at → (i : ℕ) → get_or rows i (nine (λ k. nought)) ≡ nine (at i)
-row_at {rows} {at} s i = rw s.in_order (ten_at at s.past i)
 
 -- ten rows of at most nine columns
 pub record Shape (t : List (List ℕ)) : Type 0 where

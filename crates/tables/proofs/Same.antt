@@ -11,8 +11,7 @@ use Rattle.double.specs.Doubles.{Double, nought}
 use Rattle.double.specs.Fraction.{Fraction}
 use Rattle.double.specs.Nearest.{is_negative, nearest_double}
 use Rattle.double.proofs.Patterns.{read_back}
-use Rattle.tables.specs.Tables.{a_decimal, b_decimal, coefficient_at, a_at, b_at}
-use Rattle.tables.specs.Stored.{ten}
+use Rattle.tables.specs.Tables.{a_decimal, b_decimal, coefficient_at, a_at, b_at, ten}
 use Rattle.tables.proofs.Before.{a_bits, b_bits, entry}
 use Rattle.tables.proofs.Every.{every, two}
 use Rattle.tables.proofs.Rows.{Shape, shape_of_a, shape_of_b, below, beside}

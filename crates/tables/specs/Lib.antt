@@ -3,5 +3,4 @@ pub mod BRows
 pub mod Tables
 pub mod Nearest
 pub mod Mirror
-pub mod Stored
-pub mod Proved
+pub mod Outside

@@ -3,25 +3,49 @@
 // What is stored lies behind `row` and `entry` alone; a row named by a literal folds into its caller.
 #![tactic(auto)]
 
-ghost use Rattle.std.specs.Prelude.{◌≡◌, ℕ, List, Float};
-ghost use Rattle.tables.specs.Tables.{a_at, b_at, row_of};
-ghost use Rattle.tables.specs.Stored.{ten, IsStored};
-ghost use Rattle.tables.specs.Proved.{a_stored, b_stored};
+ghost use Rattle.std.specs.Prelude.{◌≡◌, ℕ, Float};
+ghost use Rattle.tables.specs.Tables.{a_at, b_at, ten, row_of};
+ghost use Rattle.tables.specs.Outside.{IsNoughtOutside, a_outside, b_outside};
 
 mod a_rows;
 mod b_rows;
 
 const OUTSIDE: [f64; 9] = [0.0, 0.0, 0.0, 0.0, 0.0, 0.0, 0.0, 0.0, 0.0];
 
-// One of the two tables: its ten rows as they are stored, and the coefficients that they are by definition.
+static A_ROWS: [[f64; 9]; 10] = [
+    a_rows::A0,
+    a_rows::A1,
+    a_rows::A2,
+    a_rows::A3,
+    a_rows::A4,
+    a_rows::A5,
+    a_rows::A6,
+    a_rows::A7,
+    a_rows::A8,
+    a_rows::A9,
+];
+
+static B_ROWS: [[f64; 9]; 10] = [
+    b_rows::B0,
+    b_rows::B1,
+    b_rows::B2,
+    b_rows::B3,
+    b_rows::B4,
+    b_rows::B5,
+    b_rows::B6,
+    b_rows::B7,
+    b_rows::B8,
+    b_rows::B9,
+];
+
+// One of the two tables: its coefficients by definition, and its ten rows, which are all of it that is stored.
 pub trait Table {
-    const ROWS: [[f64; 9]; 10];
-
-    ghost ROWS: { List (List Float) };
-
     ghost at: { ℕ → ℕ → Float };
 
-    ghost as_stored: { IsStored ROWS at };
+    fn rows() -> &'static [[f64; 9]; 10]
+        ensures { result.now ≡ ten at };
+
+    ghost is_nought_outside: { IsNoughtOutside at };
 }
 
 // Table A, by which the accelerations go into the position.
@@ -31,34 +55,30 @@ pub struct A;
 pub struct B;
 
 impl Table for A {
-    const ROWS: [[f64; 9]; 10] = [
-        a_rows::A0, a_rows::A1, a_rows::A2, a_rows::A3, a_rows::A4, a_rows::A5, a_rows::A6, a_rows::A7, a_rows::A8, a_rows::A9,
-    ];
-
-    ghost ROWS = { ten a_at };
-
     ghost at = { a_at };
 
-    ghost as_stored = { a_stored };
+    ghost is_nought_outside = { a_outside };
+
+    fn rows() -> &'static [[f64; 9]; 10] {
+        &A_ROWS
+    }
 }
 
 impl Table for B {
-    const ROWS: [[f64; 9]; 10] = [
-        b_rows::B0, b_rows::B1, b_rows::B2, b_rows::B3, b_rows::B4, b_rows::B5, b_rows::B6, b_rows::B7, b_rows::B8, b_rows::B9,
-    ];
-
-    ghost ROWS = { ten b_at };
-
     ghost at = { b_at };
 
-    ghost as_stored = { b_stored };
+    ghost is_nought_outside = { b_outside };
+
+    fn rows() -> &'static [[f64; 9]; 10] {
+        &B_ROWS
+    }
 }
 
 // Row i of a table.
 pub fn row<T: Table>(i: usize) -> [f64; 9]
     ensures { result ≡ row_of T.at i }
 {
-    T::ROWS.get(i).copied().unwrap_or(OUTSIDE)
+    T::rows().get(i).copied().unwrap_or(OUTSIDE)
 }
 
 // The coefficient in row i and column k of a table.

@@ -9,4 +9,4 @@ use Rattle.tables.proofs.entry.Goals as goal
 pub returns : goal.returns
 unfolding row_of of_bits
 returns g c =
-    c.unwrap_or.ensures ∙ rw c.copied.ensures (c.get.ensures.lookup.4 (search rules) _ ∙ rw c.row.ensures (nine_at (g.T.Table.at c.args.i) (g.T.Table.as_stored.beside c.args.i) c.args.k))
+    c.unwrap_or.ensures ∙ rw c.copied.ensures (c.get.ensures.lookup.4 (search rules) _ ∙ rw c.row.ensures (nine_at (g.T.Table.at c.args.i) (g.met.T.Table.is_nought_outside.beside c.args.i) c.args.k))

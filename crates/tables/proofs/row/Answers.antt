@@ -3,10 +3,10 @@ use mathlib.Core.Path.{◌∙◌}
 use lib.Ieee.{of_bits}
 use Rattle.std.proofs.Common.{rules}
 use Rattle.tables.specs.Tables.{row_of}
-use Rattle.tables.proofs.Rows.{row_at}
+use Rattle.tables.proofs.Rows.{ten_at}
 use Rattle.tables.proofs.row.Goals as goal
 
 pub returns : goal.returns
 unfolding row_of of_bits
 returns g c =
-    c.unwrap_or.ensures ∙ rw c.copied.ensures (c.get.ensures.lookup.4 (search rules) _ ∙ rw c.ROWS.ensures (row_at g.T.Table.as_stored c.args.i))
+    c.unwrap_or.ensures ∙ rw c.copied.ensures (c.get.ensures.lookup.4 (search rules) _ ∙ rw c.rows.ensures (ten_at g.T.Table.at g.met.T.Table.is_nought_outside.below c.args.i))

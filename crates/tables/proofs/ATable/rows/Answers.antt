@@ -1,7 +1,7 @@
 -- The rows of table A as they are stored are those of its definition.
 use Rattle.tables.proofs.Before.{a_bits, entry}
 use Rattle.tables.proofs.Same.{a_rows_were}
-use Rattle.tables.proofs.ATable.ROWS.Goals as goal
+use Rattle.tables.proofs.ATable.rows.Goals as goal
 
 pub returns : goal.returns
 unfolding entry a_bits
