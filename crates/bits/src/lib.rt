@@ -18,7 +18,7 @@ pub fn float_of(bits: u64) -> f64
     ensures { result ≡ of_bits binary64 bits }
 {
     if bits % 0x8000_0000_0000_0000 > 0x7ff0_0000_0000_0000 {
-        return 0.0 / 0.0;
+        return f64::NAN;
     }
     f64::from_bits(bits)
 }
@@ -30,7 +30,7 @@ pub fn pattern_of(x: f64) -> Pattern
     if x != x {
         return Pattern::Nan;
     }
-    Pattern::Bits(f64::to_bits(x))
+    Pattern::Bits(x.to_bits())
 }
 
 // The pattern of a float as it is stored: for a NaN the quiet one without sign and payload.
@@ -40,5 +40,5 @@ pub fn bits_of(x: f64) -> u64
     if x != x {
         return 0x7ff8_0000_0000_0000;
     }
-    f64::to_bits(x)
+    x.to_bits()
 }

@@ -79,7 +79,7 @@ fn split(b: u64) -> Even
     let mut m = t + TWO_52;
     let mut e = f + 1073;
     if f == 0 {
-        let z = u64::leading_zeros(t) as u64 - 11;
+        let z = u64::from(t.leading_zeros()) - 11;
         m = t << z;
         e = 1074 - z;
     }
@@ -104,11 +104,11 @@ pub fn root(x: f64) -> f64
     ensures { result ≡ root_of x }
 {
     if x > 0.0 {
-        let b = f64::to_bits(x);
+        let b = x.to_bits();
         if b < INFINITY {
             return f64::from_bits(pattern(b));
         }
         return x;
     }
-    if x == 0.0 { x } else { 0.0 / 0.0 }
+    if x == 0.0 { x } else { f64::NAN }
 }

@@ -3,10 +3,11 @@
 // in 01's order of rounding. A row is named by a literal wherever it is known, so that its coefficients fold in.
 #![tactic(auto)]
 
-ghost use Rattle.std.specs.Prelude.{◌≡◌};
-ghost use Rattle.sums.specs.Weighted.{weighted, weighted_next, sum_a, sum_b, fixed_a, fixed_b};
+ghost use Rattle.std.specs.Prelude.{◌≡◌, min, length};
+ghost use Rattle.sums.specs.Weighted.{weighted, sum_of, fixed_sum};
 ghost use Rattle.sums.specs.Sums.{epoch_sums, on_sums, back_sums, point_of, predicted_state, fixed_of, corrected_state};
 
+use tables::{A, B, Table};
 use triple::{State, Triple};
 
 // The first sum s and the second, S, at one point.
@@ -25,50 +26,37 @@ pub struct Fixed {
     pub fb: Triple,
 }
 
-// The sum over k = 0 to 8 of a[k]·row[k].
-fn weighted(a: [Triple; 9], row: [f64; 9]) -> Triple
-    ensures { result ≡ weighted a row 9 }
+// The sum of a[k]·row[k], from k = 0 on, as far as both go.
+fn weighted(a: &[Triple], row: &[f64]) -> Triple
+    ensures { result ≡ weighted a.now row.now (min (length a.now) (length row.now)) }
 {
     let mut sum = Triple::zero();
-    let mut k = 0usize;
-    while k < 9 {
-        sum = sum.plus(a[k].times(row[k]));
-        k += 1;
+    for (b, c) in a.iter().zip(row) {
+        sum = sum.plus(b.times(*c));
     }
     sum
 }
 
-// The sum over k = 0 to 7 of a[k+1]·row[k].
-fn weighted_next(a: [Triple; 9], row: [f64; 9]) -> Triple
-    ensures { result ≡ weighted_next a row 8 }
+// The sum over all nine with row i of a table.
+fn sum_of<T: Table>(i: usize, a: [Triple; 9]) -> Triple
+    ensures { result ≡ sum_of T.at i a }
 {
-    let mut sum = Triple::zero();
-    let mut k = 0usize;
-    while k < 8 {
-        sum = sum.plus(a[k + 1].times(row[k]));
-        k += 1;
-    }
-    sum
+    weighted(&a, &tables::row::<T>(i))
 }
 
-fn sum_a(i: usize, a: [Triple; 9]) -> Triple
-    ensures { result ≡ sum_a i a }
+// The sum over the last eight, each with the coefficient one to the left, in row 8 of a table.
+fn fixed_sum<T: Table>(a: [Triple; 9]) -> Triple
+    ensures { result ≡ fixed_sum T.at a }
 {
-    weighted(a, tables::a_row(i))
-}
-
-fn sum_b(i: usize, a: [Triple; 9]) -> Triple
-    ensures { result ≡ sum_b i a }
-{
-    weighted(a, tables::b_row(i))
+    weighted(&a[1..], &tables::row::<T>(8))
 }
 
 // The sums at the epoch, from its state and all nine accelerations.
 pub fn at_epoch(h: f64, epoch: State, a: [Triple; 9]) -> Sums
     ensures { result ≡ epoch_sums h epoch a }
 {
-    let s = epoch.v.over(h).minus(sum_b(4, a));
-    let big_s = epoch.r.over(h * h).minus(sum_a(4, a));
+    let s = epoch.v.over(h).minus(sum_of::<B>(4, a));
+    let big_s = epoch.r.over(h * h).minus(sum_of::<A>(4, a));
     Sums { s, big_s }
 }
 
@@ -76,8 +64,8 @@ pub fn at_epoch(h: f64, epoch: State, a: [Triple; 9]) -> Sums
 pub fn point_of(i: usize, h: f64, sums: Sums, a: [Triple; 9]) -> State
     ensures { result ≡ point_of i h sums a }
 {
-    let r = sums.big_s.plus(sum_a(i, a)).times(h * h);
-    let v = sums.s.plus(sum_b(i, a)).times(h);
+    let r = sums.big_s.plus(sum_of::<A>(i, a)).times(h * h);
+    let v = sums.s.plus(sum_of::<B>(i, a)).times(h);
     State { r, v }
 }
 
@@ -85,16 +73,16 @@ pub fn point_of(i: usize, h: f64, sums: Sums, a: [Triple; 9]) -> State
 pub fn predicted(h: f64, sums: Sums, a: [Triple; 9]) -> State
     ensures { result ≡ predicted_state h sums a }
 {
-    let r = sums.big_s.plus(sums.s).plus(sum_a(9, a)).times(h * h);
-    let v = sums.s.plus(sum_b(9, a)).times(h);
+    let r = sums.big_s.plus(sums.s).plus(sum_of::<A>(9, a)).times(h * h);
+    let v = sums.s.plus(sum_of::<B>(9, a)).times(h);
     State { r, v }
 }
 
 pub fn fixed_of(a: [Triple; 9]) -> Fixed
     ensures { result ≡ fixed_of a }
 {
-    let fa = weighted_next(a, tables::a_row(8));
-    let fb = weighted_next(a, tables::b_row(8));
+    let fa = fixed_sum::<A>(a);
+    let fb = fixed_sum::<B>(a);
     Fixed { fa, fb }
 }
 
@@ -102,8 +90,8 @@ pub fn fixed_of(a: [Triple; 9]) -> Fixed
 pub fn corrected(h: f64, sums: Sums, fixed: Fixed, b: Triple) -> State
     ensures { result ≡ corrected_state h sums fixed b }
 {
-    let a88 = tables::a(8, 8);
-    let b88 = tables::b(8, 8);
+    let a88 = tables::entry::<A>(8, 8);
+    let b88 = tables::entry::<B>(8, 8);
     let r = sums
         .big_s
         .plus(sums.s)

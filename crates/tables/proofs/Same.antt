@@ -1,5 +1,5 @@
 -- Every coefficient is the same bits as before W-205, in the tables and outside: `a_same_bits`, `b_same_bits`. In the tables it is computed, entry by entry.
-use mathlib.Core.Path.{◌≡◌, sym, ap, ◌∙◌, fun_ext}
+use mathlib.Core.Path.{◌≡◌, ap, fun_ext}
 use mathlib.Core.List.{List}
 use Prim.Native.Nat.{ℕ, ◌≤◌, ◌<◌}
 use mathlib.Core.Bool.{Bool, true, false, not, ◌&&◌, cond}
@@ -11,7 +11,7 @@ use Rattle.double.specs.Doubles.{Double, nought}
 use Rattle.double.specs.Fraction.{Fraction}
 use Rattle.double.specs.Nearest.{is_negative, nearest_double}
 use Rattle.double.proofs.Patterns.{read_back}
-use Rattle.tables.specs.Tables.{a_decimal, b_decimal, coefficient_at, a_at, b_at, nine, a_row, b_row}
+use Rattle.tables.specs.Tables.{a_decimal, b_decimal, coefficient_at, a_at, b_at, ten}
 use Rattle.tables.proofs.Before.{a_bits, b_bits, entry}
 use Rattle.tables.proofs.Every.{every, two}
 use Rattle.tables.proofs.Rows.{Shape, shape_of_a, shape_of_b, below, beside}
@@ -60,11 +60,9 @@ a_was i k = read_back (a_at i k) (entry a_bits i k) (a_double i k) (a_same_bits 
 pub b_was : (i k : ℕ) → of_bits binary64 (entry b_bits i k) ≡ b_at i k
 b_was i k = read_back (b_at i k) (entry b_bits i k) (b_double i k) (b_same_bits i k)
 
--- and a row what its nine patterns stand for
-pub a_row_was : {n i : ℕ} → i ≡ n → nine (λ k. of_bits binary64 (entry a_bits n k)) ≡ a_row i
-unfolding a_row
-a_row_was {n} {i} e = ap nine (fun_ext (a_was n)) ∙ ap a_row (sym e)
+-- and the ten rows are what their patterns stand for
+pub a_rows_were : ten (λ i k. of_bits binary64 (entry a_bits i k)) ≡ ten a_at
+a_rows_were = ap ten (fun_ext (λ i. fun_ext (λ k. a_was i k)))
 
-pub b_row_was : {n i : ℕ} → i ≡ n → nine (λ k. of_bits binary64 (entry b_bits n k)) ≡ b_row i
-unfolding b_row
-b_row_was {n} {i} e = ap nine (fun_ext (b_was n)) ∙ ap b_row (sym e)
+pub b_rows_were : ten (λ i k. of_bits binary64 (entry b_bits i k)) ≡ ten b_at
+b_rows_were = ap ten (fun_ext (λ i. fun_ext (λ k. b_was i k)))

@@ -3,3 +3,4 @@ pub mod BRows
 pub mod Tables
 pub mod Nearest
 pub mod Mirror
+pub mod Outside

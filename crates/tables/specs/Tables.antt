@@ -36,9 +36,17 @@ b_at i k = coefficient_at b_decimal i k
 abbrev pub nine : (ℕ → Float) → List Float
 nine f = f 0 ∷ f 1 ∷ f 2 ∷ f 3 ∷ f 4 ∷ f 5 ∷ f 6 ∷ f 7 ∷ f 8 ∷ []
 
--- row i
-unfoldable pub a_row : ℕ → List Float
-a_row i = nine (a_at i)
+-- row i of a table
+unfoldable pub row_of : (ℕ → ℕ → Float) → ℕ → List Float
+row_of at i = nine (at i)
 
-unfoldable pub b_row : ℕ → List Float
-b_row i = nine (b_at i)
+abbrev pub a_row : ℕ → List Float
+a_row i = row_of a_at i
+
+abbrev pub b_row : ℕ → List Float
+b_row i = row_of b_at i
+
+-- the ten rows, which are stored
+abbrev pub ten : (ℕ → ℕ → Float) → List (List Float)
+ten at =
+    nine (at 0) ∷ nine (at 1) ∷ nine (at 2) ∷ nine (at 3) ∷ nine (at 4) ∷ nine (at 5) ∷ nine (at 6) ∷ nine (at 7) ∷ nine (at 8) ∷ nine (at 9) ∷ []

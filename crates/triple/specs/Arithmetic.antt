@@ -5,6 +5,9 @@ use Rattle.std.specs.Float.Ieee.{add, sub, mul, div}
 pub use Rattle.double.specs.Doubles.{nought}
 use Rattle.triple.specs.declared.Triple.{Triple}
 
+abbrev pub thrice : Float → Triple
+thrice x = record { x = x; y = x; z = x }
+
 unfoldable pub zeros : Triple
 zeros = record { x = nought; y = nought; z = nought }
 

@@ -2,11 +2,11 @@
 use Rattle.std.specs.Prelude.{ℕ, List, [], ◌∷◌, get_or}
 use Rattle.std.specs.Float.{nan}
 use Rattle.triple.specs.declared.Triple.{Triple}
-use Rattle.triple.specs.Arithmetic.{zeros}
+use Rattle.triple.specs.Arithmetic.{thrice, zeros}
 
 -- triple i of a list; past its end three NaN
 abbrev pub at : List Triple → ℕ → Triple
-at l i = get_or l i (record { x = nan; y = nan; z = nan })
+at l i = get_or l i (thrice nan)
 
 unfoldable pub nine_zeros : List Triple
 nine_zeros = zeros ∷ zeros ∷ zeros ∷ zeros ∷ zeros ∷ zeros ∷ zeros ∷ zeros ∷ zeros ∷ []

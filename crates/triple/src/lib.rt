@@ -4,7 +4,7 @@
 #![tactic(auto)]
 
 ghost use Rattle.std.specs.Prelude.{◌≡◌};
-ghost use Rattle.triple.specs.Arithmetic.{zeros, plus, minus, times, over};
+ghost use Rattle.triple.specs.Arithmetic.{thrice, zeros, plus, minus, times, over};
 ghost use Rattle.triple.specs.Size.{absolute, larger_of, mean_square, size_of};
 ghost use Rattle.triple.specs.Finite.{is_finite};
 
@@ -46,15 +46,18 @@ pub struct Sample {
 }
 
 impl Triple {
+    // Three times x.
+    pub fn thrice(x: f64) -> Triple
+        ensures { result ≡ thrice x }
+    {
+        Triple { x, y: x, z: x }
+    }
+
     // What every sum starts from.
     pub fn zero() -> Triple
         ensures { result ≡ zeros }
     {
-        Triple {
-            x: 0.0,
-            y: 0.0,
-            z: 0.0,
-        }
+        Triple::thrice(0.0)
     }
 
     pub fn plus(self, other: Triple) -> Triple
@@ -114,24 +117,22 @@ impl Triple {
 }
 
 // The absolute value; of -0.0 it is 0.0, as in the Rust.
+#[tactic(auto, using(crate::proofs::Library::absolute_unsigned))]
 pub fn abs(x: f64) -> f64
     ensures { result ≡ absolute x }
 {
-    if x == 0.0 {
-        return 0.0;
-    }
-    if x < 0.0 { -x } else { x }
+    x.abs()
 }
 
-// Neither a NaN nor an infinity: these leave a NaN, which differs from itself, where a finite number leaves 0.0.
+// Neither a NaN nor an infinity.
+#[tactic(auto, using(crate::proofs::Library::finite_alike))]
 pub fn is_finite(x: f64) -> bool
     ensures { result ≡ is_finite x }
 {
-    let rest = x - x;
-    rest == rest
+    x.is_finite()
 }
 
-// a, unless b is greater: a NaN in b is passed over.
+// a, unless b is greater: a NaN in b is passed over. Not `f64::max`, which passes one in a over too, and so would change the verdicts.
 pub fn larger_of(a: f64, b: f64) -> f64
     ensures { result ≡ larger_of a b }
 {

@@ -17,15 +17,7 @@ pub fn zeros() -> [Triple; 9]
 pub fn element(l: [Triple; 9], i: usize) -> Triple
     ensures { result ≡ at l i }
 {
-    if i < 9 {
-        return l[i];
-    }
-    let nan = 0.0 / 0.0;
-    Triple {
-        x: nan,
-        y: nan,
-        z: nan,
-    }
+    l.get(i).copied().unwrap_or(Triple::thrice(f64::NAN))
 }
 
 // The nine with t as triple i, and past the last one unchanged.

@@ -4,4 +4,4 @@ use Rattle.sums.proofs.point_of.Goals as goal
 
 pub returns : goal.returns
 unfolding point_of
-returns c = simp (c.times-v.ensures, c.plus-2.ensures, c.sum_b.ensures, c.times-r.ensures, c.plus.ensures, c.sum_a.ensures)
+returns c = simp (c.times-v.ensures, c.plus-2.ensures, c.sum_of-2.ensures, c.times-r.ensures, c.plus.ensures, c.sum_of.ensures)

@@ -1,18 +1,22 @@
 -- `weighted` is `weighted`: the sum so far is that of the terms passed.
-use mathlib.Core.Path.{◌≡◌}
-use native.Mathlib.Omega.{arith}
 use native.Mathlib.Numerals.{add-one}
-use borrow.Author.Rules.{rules}
+use lib.Ieee.{nan}
+use Rattle.std.proofs.Common.{length-append}
+use Rattle.std.proofs.lemmas.Slice.Zip.{zip_turn, zip_end}
 use Rattle.sums.specs.Weighted.{weighted}
 use Rattle.sums.proofs.weighted.Goals as goal
 
-pub loop-k-init : goal.loop-k-init
+pub loop-b-init : goal.loop-b-init
 unfolding weighted
-loop-k-init c = search rules
+loop-b-init c = c.zero-sum.ensures
 
-pub loop-k-preserved : goal.loop-k-preserved
+pub loop-b-preserved : goal.loop-b-preserved
 unfolding weighted
-loop-k-preserved c = (search rules, rw add-one (cc))
+loop-b-preserved c =
+    let t = zip_turn c.args.a.now c.args.row.now _ c.into_iter-b-iterator.result c.loop-b.b-iterator c.next.new.self _ (cc) (cc) c.loop-b.yielded_by _ c.in-Some.is c.next.ensures.steps in
+    simp (length-append, add-one) (cc (t.2 _, t.3 nan))
 
 pub returns : goal.returns
-returns c = let e : c.loop-k.k ≡ 9 = omega arith in cc
+returns c =
+    let e = zip_end c.args.a.now c.args.row.now _ c.into_iter-b-iterator.result c.loop-b.b-iterator c.next.new.self _ (cc) (cc) c.loop-b.yielded_by c.in-None.is c.next.ensures.steps in
+    rw (← e) c.loop-b.invariant

@@ -1,11 +1,8 @@
 -- `weighted` is `weighted`: the sum so far is that of the terms passed.
-use Prim.Native.Nat.{◌≤◌, ◌-◌}
 use mathlib.Core.Path.{◌≡◌}
+use lib.ListN.{length}
 use Rattle.sums.specs.Weighted.{weighted}
 use Rattle.sums.proofs.weighted.Given as goal
 
-abbrev pub invariant-loop-k : goal.invariant-loop-k
-invariant-loop-k l = (l.k ≤ 9) × (l.sum ≡ weighted l.a l.row l.k)
-
-abbrev pub decreases-loop-k : goal.decreases-loop-k
-decreases-loop-k l = 9 - l.k
+abbrev pub invariant-loop-b : goal.invariant-loop-b
+invariant-loop-b l = l.sum ≡ weighted l.a l.row (length l.yielded)
