@@ -1,9 +1,10 @@
 -- The waiting point: plain numbers in the run, a case everywhere else. (01: "each place that asks becomes a named waiting point of the run".)
-use Rattle.std.specs.Prelude.{ℕ, zero, suc, ◌+◌, Bool, true, false, cond, leb, eqb}
+use Rattle.std.specs.Prelude.{ℕ, zero, suc, ◌+◌, Bool, true, false, cond, leb, eqb, Result, Ok, Err}
 use Rattle.run.specs.declared.Mark.{Mark}
 use Rattle.run.specs.declared.Count.{Count}
 use Rattle.run.specs.declared.waiting.Stage.{Stage}
 use Rattle.run.specs.declared.waiting.Stage.TheVariants.{First, Second, Third, Fourth}
+use Rattle.run.specs.declared.waiting.UnknownStage.{UnknownStage}
 use Rattle.run.specs.declared.waiting.Waiting.{Waiting}
 use Rattle.run.specs.declared.waiting.Waiting.TheVariants.{Epoch, Forward, Backward, Survey, Pass, Step, Tail, TailSample, Ended, Unknown}
 
@@ -71,6 +72,10 @@ stage_from zero = First
 stage_from (suc zero) = Second
 stage_from (suc (suc zero)) = Third
 stage_from (suc (suc (suc n))) = Fourth
+
+-- as the code reads it: a number above 3 is no stage's
+unfoldable pub stage_read : ℕ → Result Stage UnknownStage
+stage_read n = cond (leb n 3) (Ok (stage_from n)) (Err (record { 0 = n }))
 
 -- by the number `at`
 unfoldable pub waiting_at : ℕ → ℕ → Stage → Waiting

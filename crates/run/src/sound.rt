@@ -46,7 +46,7 @@ fn forward_counts(i: u8, s: Stage, e: u64) -> bool
     if i > 7 {
         return false;
     }
-    e == 4 * (i as u64) + (waiting::stage_number(s) as u64) - 15
+    e == 4 * (i as u64) + (u8::from(s) as u64) - 15
 }
 
 fn backward_counts(i: u8, s: Stage, e: u64) -> bool
@@ -58,7 +58,7 @@ fn backward_counts(i: u8, s: Stage, e: u64) -> bool
     if i > 4 {
         return false;
     }
-    e == 33 + (waiting::stage_number(s) as u64) - 4 * (i as u64)
+    e == 33 + (u8::from(s) as u64) - 4 * (i as u64)
 }
 
 // How many of the eight points other than the epoch come before point i.
@@ -187,7 +187,7 @@ fn has_counts(w: Waiting, e: u64, b: Body) -> bool
             }
             body_counts(c as u64, e, b)
         }
-        Waiting::Tail(s) => body_counts(waiting::stage_number(s) as u64, e, b),
+        Waiting::Tail(s) => body_counts(u8::from(s) as u64, e, b),
         Waiting::TailSample => if limits::wants_samples(b.plan.settings) {
             body_counts(4, e, b)
         } else {
