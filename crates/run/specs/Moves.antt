@@ -23,27 +23,27 @@ use Rattle.conditions.specs.Conditions.{left_at}
 use Rattle.run.specs.Tracks.{start_track, track_on, tail_from}
 use Rattle.run.specs.Questions.{grid_point}
 
--- ---- a body with one part changed: there is no record update, so each is written once
+-- ---- a body with one part changed
 abbrev with_places : Body → Places → Body
-with_places b x = record { plan = b.plan; places = x; a = b.a; slopes = b.slopes; widest = b.widest; startup_iters = b.startup_iters; track = b.track; trial = b.trial }
+with_places b x = record b { places = x }
 
 abbrev with_a : Body → List Triple → Body
-with_a b x = record { plan = b.plan; places = b.places; a = x; slopes = b.slopes; widest = b.widest; startup_iters = b.startup_iters; track = b.track; trial = b.trial }
+with_a b x = record b { a = x }
 
 abbrev with_slopes : Body → Slopes → Body
-with_slopes b x = record { plan = b.plan; places = b.places; a = b.a; slopes = x; widest = b.widest; startup_iters = b.startup_iters; track = b.track; trial = b.trial }
+with_slopes b x = record b { slopes = x }
 
 abbrev with_widest : Body → Widest → Body
-with_widest b x = record { plan = b.plan; places = b.places; a = b.a; slopes = b.slopes; widest = x; startup_iters = b.startup_iters; track = b.track; trial = b.trial }
+with_widest b x = record b { widest = x }
 
 abbrev with_passes : Body → ℕ → Body
-with_passes b x = record { plan = b.plan; places = b.places; a = b.a; slopes = b.slopes; widest = b.widest; startup_iters = x; track = b.track; trial = b.trial }
+with_passes b x = record b { startup_iters = x }
 
 abbrev with_track : Body → Track → Body
-with_track b x = record { plan = b.plan; places = b.places; a = b.a; slopes = b.slopes; widest = b.widest; startup_iters = b.startup_iters; track = x; trial = b.trial }
+with_track b x = record b { track = x }
 
 abbrev with_trial : Body → Trial → Body
-with_trial b x = record { plan = b.plan; places = b.places; a = b.a; slopes = b.slopes; widest = b.widest; startup_iters = b.startup_iters; track = b.track; trial = x }
+with_trial b x = record b { trial = x }
 
 -- before the first answer
 unfoldable pub fresh_body : Plan → Triple → Triple → Body
