@@ -76,12 +76,16 @@ kept s b a = with_slopes b (with_slope s b.slopes a)
 unfoldable pub end_of : Point → Float → Slopes → Triple → State
 end_of p h l a = end_of_step p h l.l1 l.l2 l.l3 a
 
+-- an RK4 step over h from point i to point j
+abbrev pub moved : (i j : ℕ) → Float → Body → Triple → Body
+moved i j h b a = with_places b (placed j (end_of (grid_point b i) h b.slopes a) b.places)
+
 -- "RK4 forward to points 5, 6, 7, 8, then backward with -h to 3, 2, 1, 0"; each step starts from point i
 unfoldable pub moved_on : ℕ → Body → Triple → Body
-moved_on i b a = with_places b (placed (i + 1) (end_of (grid_point b i) b.plan.h b.slopes a) b.places)
+moved_on i b a = moved i (i + 1) b.plan.h b a
 
 unfoldable pub moved_back : ℕ → Body → Triple → Body
-moved_back i b a = with_places b (placed (i - 1) (end_of (grid_point b i) (neg b.plan.h) b.slopes a) b.places)
+moved_back i b a = moved i (i - 1) (neg b.plan.h) b a
 
 -- ---- a startup pass: all points corrected from the same a, then "the eight accelerations afresh, in order"
 unfoldable pub pass_begun : Body → Body

@@ -1,7 +1,7 @@
 // SPDX-License-Identifier: MIT OR Apache-2.0
 // What an answer makes of the mathematics: from a body to the next, each by value.
 ghost use Rattle.std.specs.Prelude.{◌≡◌};
-ghost use Rattle.run.specs.Moves.{fresh_body, with_slope, kept, end_of, surveyed, pass_begun, renewed, launched, predicted, tried, end_of_tail};
+ghost use Rattle.run.specs.Moves.{fresh_body, with_slope, kept, end_of, moved, surveyed, pass_begun, renewed, launched, predicted, tried, end_of_tail};
 
 use crate::waiting::Stage;
 use crate::{Body, Slopes, Track, Trial, questions};
@@ -76,6 +76,17 @@ pub fn end_of(p: Point, h: f64, l: Slopes, a: Triple) -> State
     ensures { result ≡ end_of p h l a }
 {
     rk4::end_of_step(p, h, l.l1, l.l2, l.l3, a)
+}
+
+// The RK4 step over h from point i to point j has ended.
+pub fn move_to(i: u8, j: u8, h: f64, b: Body, a: Triple) -> Body
+    ensures { result ≡ moved i j h b a }
+{
+    let end = end_of(questions::grid_point(b, i), h, b.slopes, a);
+    Body {
+        places: startup::place(j, end, b.places),
+        ..b
+    }
 }
 
 // Point i, the epoch too, has its first acceleration.
