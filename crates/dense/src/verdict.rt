@@ -12,7 +12,7 @@ use refusals::{Refusal, Told};
 fn is_misshapen(times: &[f64], samples: &[f64], out: &[f64]) -> bool
     ensures { result ≡ is_misshapen times.now samples.now out.now }
 {
-    if samples.len() % table::SAMPLE_WIDTH != 0 {
+    if samples.len() % triple::SAMPLE_WIDTH != 0 {
         return true;
     }
     out.len() / BETWEEN_NUMBERS < times.len()

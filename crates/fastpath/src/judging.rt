@@ -2,7 +2,6 @@
 // What an answer at a step's end leads to: where the step ends by it, whether it is made there, and whether a further one follows.
 ghost use Rattle.std.specs.Prelude.{◌≡◌, ◌<◌};
 ghost use Rattle.run.specs.Limits.{ample};
-ghost use Rattle.gauss_jackson.specs.Answers.{next_count};
 ghost use Rattle.fastpath.specs.Looking.{reached, is_made, is_followed, looked_away, looked_again, looked_on};
 
 use crate::Look;
@@ -51,16 +50,6 @@ fn is_followed(plan: Plan, t: f64, n: u64, from: u64, room: usize) -> bool
         return false;
     }
     !conditions::is_tail(plan, t)
-}
-
-pub fn next_count(c: Count) -> Count
-    requires { c.evals < ample }
-    ensures { result ≡ next_count c }
-{
-    Count {
-        number: std::num::wrapping_add_u16(c.number, 1),
-        evals: c.evals + 1,
-    }
 }
 
 // Neither: the answer goes the plain way.

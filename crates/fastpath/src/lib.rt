@@ -67,7 +67,7 @@ pub fn look_at(
     }
     let n = mark.index;
     let end = judging::reach(n, plan, track.sums, trial, a);
-    let count = judging::next_count(mark.count);
+    let count = mark.count.next();
     if end.made {
         return judging::look_on(plan, count, track, end.state, from, room);
     }

@@ -1,5 +1,5 @@
 -- What one call does: `started` and `answered` are what the contracts of `start` and `answer` cite. c counts the answers up to this one.
-use Rattle.std.specs.Prelude.{ℕ, ◌+◌, ◌-◌, ◌%◌, cond, List, [], ◌∷◌, length, ◌==◌, nat_lt, Float}
+use Rattle.std.specs.Prelude.{ℕ, ◌+◌, ◌-◌, cond, List, [], ◌∷◌, length, ◌==◌, nat_lt, Float}
 use Rattle.triple.specs.declared.Triple.{Triple}
 use Rattle.triple.specs.declared.State.{State}
 use Rattle.triple.specs.declared.Sample.{Sample}
@@ -25,17 +25,13 @@ use Rattle.run.specs.declared.waiting.Stage.{Stage}
 use Rattle.run.specs.declared.waiting.Stage.TheVariants.{First}
 use Rattle.run.specs.declared.waiting.Waiting.{Waiting}
 use Rattle.run.specs.declared.waiting.Waiting.TheVariants.{Epoch, Forward, Backward, Survey, Pass, Step, Tail, TailSample, Ended, Unknown}
-use Rattle.run.specs.Limits.{numbering}
 use Rattle.conditions.specs.Conditions.{is_due, is_tail, is_at_rest}
+pub use Rattle.run.specs.Waiting.{next_count}
 use Rattle.run.specs.Waiting.{is_last, stage_after, mark_at, waits_at, next_point}
 use Rattle.run.specs.Questions.{question_at}
 use Rattle.run.specs.Moves.{fresh_body, surveyed, kept, moved_on, moved_back, pass_begun, renewed, pass_made, launched, predicted, tried, committed, end_of_tail}
 use Rattle.run.specs.Samples.{Room, has_room, put_all, start_samples, step_sample, last_sample}
 use Rattle.run.specs.Sound.{is_sound}
-
--- "Numbers start at 0 and rise by one for each accepted answer; after 65,535 the next question is numbered 0."
-unfoldable pub next_count : Count → Count
-next_count c = record { number = (c.number + 1) % numbering; evals = c.evals + 1 }
 
 -- ---- the run is ended: every ended run is the same, and holds nothing
 unfoldable pub no_plan : Plan

@@ -98,37 +98,22 @@ pub fn answer(run: Run, number: u16, a: Triple, from: u64, out: &mut [f64]) -> A
     ensures { (result ≡ (answered run number a (tens from out.old)).got) × (out.new ≡ numbers_of (answered run number a (tens from out.old)).out) }
 {
     if !sound::is_sound(run) {
-        let outcome = Outcome::Refused(Refusal::NoQuestion);
-        return Answered {
-            run,
-            outcome,
-            stored: 0,
-        };
+        return outcomes::refuse(run, Refusal::NoQuestion);
     }
     let mark = run.mark;
     if mark.count.number != number {
-        let outcome = Outcome::Refused(Refusal::NotThatQuestion);
-        return Answered {
-            run,
-            outcome,
-            stored: 0,
-        };
+        return outcomes::refuse(run, Refusal::NotThatQuestion);
     }
-    let w = waiting::waits_at(mark);
-    let count = outcomes::next_count(mark.count);
-    let body = run.body;
-    taking::take(w, count, body, a, from, out)
+    taking::take(waiting::waits_at(mark), mark.count.next(), run.body, a, from, out)
 }
 
 // The open question of a run, told again; or 7 where none is open.
+#[tactic(auto, unfolding(crate::specs::Answers::open_question))]
 pub fn open_question(run: Run) -> Outcome
     ensures { result ≡ open_question run }
 {
     if !sound::is_sound(run) {
         return Outcome::Refused(Refusal::NoQuestion);
     }
-    let mark = run.mark;
-    let body = run.body;
-    let w = waiting::waits_at(mark);
-    outcomes::question_of(w, mark.count, body)
+    outcomes::question_of(waiting::waits_at(run.mark), run.mark.count, run.body)
 }

@@ -1,27 +1,17 @@
 // SPDX-License-Identifier: MIT OR Apache-2.0
 // What a call can give: a question, the finished state or a refusal, and the run to go on with.
-ghost use Rattle.std.specs.Prelude.{◌≡◌, ◌<◌, if◌then◌else◌};
-ghost use Rattle.run.specs.Limits.{ample};
+ghost use Rattle.std.specs.Prelude.{◌≡◌, if◌then◌else◌};
 ghost use Rattle.run.specs.Moves.{fresh_body};
-ghost use Rattle.gauss_jackson.specs.Answers.{next_count, no_plan, ended_run, ending, with_stored, question_of, asking, solution_of};
+ghost use Rattle.gauss_jackson.specs.Answers.{no_plan, ended_run, ending, with_stored, question_of, asking, solution_of, refusing};
 
 use crate::{Answered, Outcome, Question, Solution};
 use plan::{Plan, Settings};
+use refusals::Refusal;
 use run::waiting::Waiting;
 use run::{Body, Count, Run, moves, questions, waiting};
 use triple::{State, Triple};
 
-// The counts of the next question; its number wraps to 0 after 65,535.
-pub fn next_count(c: Count) -> Count
-    requires { c.evals < ample }
-    ensures { result ≡ next_count c }
-{
-    Count {
-        number: std::num::wrapping_add_u16(c.number, 1),
-        evals: c.evals + 1,
-    }
-}
-
+#[tactic(auto, unfolding(crate::specs::Answers::no_plan))]
 fn no_plan() -> Plan
     ensures { result ≡ no_plan }
 {
@@ -43,6 +33,7 @@ fn no_plan() -> Plan
 }
 
 // The run that has ended: always the same one.
+#[tactic(auto, unfolding(crate::specs::Answers::ended_run))]
 fn ended_run() -> Run
     ensures { result ≡ ended_run }
 {
@@ -51,58 +42,69 @@ fn ended_run() -> Run
         number: 0,
         evals: 0,
     };
-    let mark = waiting::mark_at(Waiting::Ended, count);
-    let body = moves::fresh_body(no_plan(), zero, zero);
-    Run { mark, body }
+    Run {
+        mark: waiting::mark_at(Waiting::Ended, count),
+        body: moves::fresh_body(no_plan(), zero, zero),
+    }
 }
 
+#[tactic(auto, unfolding(crate::specs::Answers::ending))]
 pub fn end(outcome: Outcome) -> Answered
     ensures { result ≡ ending outcome }
 {
-    let run = ended_run();
     Answered {
-        run,
+        run: ended_run(),
         outcome,
         stored: 0,
     }
 }
 
+// After 7 and 8 all is unchanged.
+#[tactic(auto, unfolding(crate::specs::Answers::refusing))]
+pub fn refuse(run: Run, refusal: Refusal) -> Answered
+    ensures { result ≡ refusing run refusal }
+{
+    Answered {
+        run,
+        outcome: Outcome::Refused(refusal),
+        stored: 0,
+    }
+}
+
 // The answer x, where samples are wanted after m of them were stored.
+#[tactic(auto, unfolding(crate::specs::Answers::with_stored))]
 pub fn tell_stored(wanted: bool, m: u64, x: Answered) -> Answered
     ensures { result ≡ (if wanted then with_stored m x else x) }
 {
     if wanted {
-        let mut told = x;
-        told.stored = m;
-        return told;
+        Answered { stored: m, ..x }
+    } else {
+        x
     }
-    x
 }
 
+#[tactic(auto, unfolding(crate::specs::Answers::question_of))]
 pub fn question_of(w: Waiting, count: Count, body: Body) -> Outcome
     ensures { result ≡ question_of w count body }
 {
     let q = questions::question_at(w, body);
-    let r = q.r;
-    let v = q.v;
     Outcome::Ask(Question {
         number: count.number,
         t: q.t,
-        r,
-        v,
+        r: q.r,
+        v: q.v,
     })
 }
 
 // The run waits at w.
+#[tactic(auto, unfolding(crate::specs::Answers::asking))]
 pub fn ask(w: Waiting, count: Count, body: Body) -> Answered
     ensures { result ≡ asking w count body }
 {
     let mark = waiting::mark_at(w, count);
-    let outcome = question_of(w, count, body);
-    let run = Run { mark, body };
     Answered {
-        run,
-        outcome,
+        run: Run { mark, body },
+        outcome: question_of(w, count, body),
         stored: 0,
     }
 }
@@ -118,15 +120,14 @@ pub fn begin(plan: Plan, r0: Triple, v0: Triple) -> Answered
     ask(Waiting::Epoch, count, moves::fresh_body(plan, r0, v0))
 }
 
+#[tactic(auto, unfolding(crate::specs::Answers::solution_of))]
 pub fn solution_of(t: f64, x: State, count: Count, steps: u64, b: Body) -> Outcome
     ensures { result ≡ solution_of t x count steps b }
 {
-    let r = x.r;
-    let v = x.v;
     Outcome::Done(Solution {
         t,
-        r,
-        v,
+        r: x.r,
+        v: x.v,
         evals: count.evals,
         steps,
         startup_iters: b.startup_iters,

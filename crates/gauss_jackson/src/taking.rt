@@ -12,11 +12,12 @@ use crate::{Answered, Outcome, advance, outcomes};
 use plan::limits;
 use refusals::Refusal;
 use run::waiting::{Stage, Waiting};
-use run::{Body, Count, moves, samples, waiting};
+use run::{Body, Count, moves, samples};
 use startup::passes;
 use triple::Triple;
 
 // The head of the loop: a further step, the tail, the end, or refusal 2.
+#[tactic(auto, unfolding(crate::specs::Answers::onward))]
 fn onward(count: Count, b: Body) -> Answered
     ensures { result ≡ onward count b }
 {
@@ -34,6 +35,7 @@ fn onward(count: Count, b: Body) -> Answered
 }
 
 // The startup is done: its five samples, if wanted, then the loop.
+#[tactic(auto, unfolding(crate::specs::Answers::startup_ended))]
 fn end_startup(count: Count, b: Body, from: u64, out: &mut [f64]) -> Answered
     ensures { (result ≡ (startup_ended count b (tens from out.old)).got) × (out.new ≡ numbers_of (startup_ended count b (tens from out.old)).out) }
 {
@@ -46,6 +48,7 @@ fn end_startup(count: Count, b: Body, from: u64, out: &mut [f64]) -> Answered
 }
 
 // A step is made: its sample, if wanted, then the loop.
+#[tactic(auto, unfolding(crate::specs::Answers::step_ended))]
 fn end_step(count: Count, b: Body, from: u64, out: &mut [f64]) -> Answered
     ensures { (result ≡ (step_ended count b (tens from out.old)).got) × (out.new ≡ numbers_of (step_ended count b (tens from out.old)).out) }
 {
@@ -53,18 +56,18 @@ fn end_step(count: Count, b: Body, from: u64, out: &mut [f64]) -> Answered
     if !samples::has_place(wanted, from, b.track.steps, 1, out.len()) {
         return outcomes::end(Outcome::Refused(Refusal::SampleRoom));
     }
-    let window = b.a;
     samples::keep_sample(
         wanted,
         from,
         b.track.steps,
-        samples::step_sample(b.track, window),
+        samples::step_sample(b.track, b.a),
         out,
     );
     outcomes::tell_stored(wanted, 1, onward(count, b))
 }
 
 // The head of the startup passes.
+#[tactic(auto, unfolding(crate::specs::Answers::passes_on, run::specs::Samples::numbers_of))]
 fn passes_on(count: Count, b: Body, from: u64, out: &mut [f64]) -> Answered
     ensures { (result ≡ (passes_on count b (tens from out.old)).got) × (out.new ≡ numbers_of (passes_on count b (tens from out.old)).out) }
 {
@@ -75,6 +78,7 @@ fn passes_on(count: Count, b: Body, from: u64, out: &mut [f64]) -> Answered
 }
 
 // A startup pass has all its accelerations.
+#[tactic(auto, unfolding(crate::specs::Answers::pass_ended))]
 fn end_pass(count: Count, b: Body, from: u64, out: &mut [f64]) -> Answered
     requires { b.startup_iters < ample }
     ensures { (result ≡ (pass_ended count b (tens from out.old)).got) × (out.new ≡ numbers_of (pass_ended count b (tens from out.old)).out) }
@@ -93,40 +97,43 @@ fn keep_on(w: Waiting, s: Stage, count: Count, b: Body, a: Triple) -> Answered
     outcomes::ask(w, count, moves::keep(s, b, a))
 }
 
+#[tactic(auto, unfolding(crate::specs::Answers::rk4_taken, crate::specs::Answers::forward_ended, run::specs::Moves::moved_on))]
 fn take_forward(i: u8, s: Stage, count: Count, b: Body, a: Triple) -> Answered
     requires { i < 8 }
     ensures { result ≡ rk4_taken (λ (t : Stage). Waiting.Forward i t) s count b a (forward_ended i count b a) }
 {
-    if !waiting::is_last(s) {
-        return keep_on(Waiting::Forward(i, waiting::stage_after(s)), s, count, b, a);
+    if !s.is_last() {
+        return keep_on(Waiting::Forward(i, s.after()), s, count, b, a);
     }
-    let next = advance::move_on(i, b, a);
+    let next = moves::move_to(i, i + 1, b.plan.h, b, a);
     if i < 7 {
         return outcomes::ask(Waiting::Forward(i + 1, Stage::First), count, next);
     }
     outcomes::ask(Waiting::Backward(4, Stage::First), count, next)
 }
 
+#[tactic(auto, unfolding(crate::specs::Answers::rk4_taken, crate::specs::Answers::backward_ended, run::specs::Moves::moved_back))]
 fn take_backward(i: u8, s: Stage, count: Count, b: Body, a: Triple) -> Answered
     requires { 0 < i }
     ensures { result ≡ rk4_taken (λ (t : Stage). Waiting.Backward i t) s count b a (backward_ended i count b a) }
 {
-    if !waiting::is_last(s) {
+    if !s.is_last() {
         return keep_on(
-            Waiting::Backward(i, waiting::stage_after(s)),
+            Waiting::Backward(i, s.after()),
             s,
             count,
             b,
             a,
         );
     }
-    let next = advance::move_back(i, b, a);
+    let next = moves::move_to(i, i - 1, -b.plan.h, b, a);
     if i > 1 {
         return outcomes::ask(Waiting::Backward(i - 1, Stage::First), count, next);
     }
     outcomes::ask(Waiting::Survey(0), count, next)
 }
 
+#[tactic(auto, unfolding(crate::specs::Answers::survey_taken, run::specs::Samples::numbers_of))]
 fn take_survey(i: u8, count: Count, b: Body, a: Triple, from: u64, out: &mut [f64]) -> Answered
     ensures { (result ≡ (survey_taken i count b a (tens from out.old)).got) × (out.new ≡ numbers_of (survey_taken i count b a (tens from out.old)).out) }
 {
@@ -137,6 +144,7 @@ fn take_survey(i: u8, count: Count, b: Body, a: Triple, from: u64, out: &mut [f6
     passes_on(count, next, from, out)
 }
 
+#[tactic(auto, unfolding(crate::specs::Answers::pass_taken, run::specs::Samples::numbers_of))]
 fn take_pass(i: u8, count: Count, b: Body, a: Triple, from: u64, out: &mut [f64]) -> Answered
     requires { b.startup_iters < ample }
     ensures { (result ≡ (pass_taken i count b a (tens from out.old)).got) × (out.new ≡ numbers_of (pass_taken i count b a (tens from out.old)).out) }
@@ -149,6 +157,7 @@ fn take_pass(i: u8, count: Count, b: Body, a: Triple, from: u64, out: &mut [f64]
 }
 
 // An answer at a step's end, after n corrector passes.
+#[tactic(auto, unfolding(crate::specs::Answers::step_taken, run::specs::Samples::numbers_of))]
 fn take_step(n: u8, count: Count, b: Body, a: Triple, from: u64, out: &mut [f64]) -> Answered
     requires { (b.plan.settings.max_corrector_iters ≤ max_passes) × (b.track.steps < ample) }
     ensures { (result ≡ (step_taken n count b a (tens from out.old)).got) × (out.new ≡ numbers_of (step_taken n count b a (tens from out.old)).out) }
@@ -164,12 +173,13 @@ fn take_step(n: u8, count: Count, b: Body, a: Triple, from: u64, out: &mut [f64]
     outcomes::ask(Waiting::Step(n + 1), count, moves::try_state(b, after))
 }
 
+#[tactic(auto, unfolding(crate::specs::Answers::rk4_taken, crate::specs::Answers::tail_ended))]
 fn take_tail(s: Stage, count: Count, b: Body, a: Triple) -> Answered
     requires { b.track.steps < ample }
     ensures { result ≡ rk4_taken (λ (t : Stage). Waiting.Tail t) s count b a (tail_ended count b a) }
 {
-    if !waiting::is_last(s) {
-        return keep_on(Waiting::Tail(waiting::stage_after(s)), s, count, b, a);
+    if !s.is_last() {
+        return keep_on(Waiting::Tail(s.after()), s, count, b, a);
     }
     let end_state = moves::end_of_tail(b, a);
     if limits::wants_samples(b.plan.settings) {
@@ -179,6 +189,7 @@ fn take_tail(s: Stage, count: Count, b: Body, a: Triple) -> Answered
 }
 
 // The tail's sample has its acceleration.
+#[tactic(auto, unfolding(crate::specs::Answers::last_taken))]
 fn take_last(count: Count, b: Body, a: Triple, from: u64, out: &mut [f64]) -> Answered
     requires { b.track.steps < ample }
     ensures { (result ≡ (last_taken count b a (tens from out.old)).got) × (out.new ≡ numbers_of (last_taken count b a (tens from out.old)).out) }
@@ -194,6 +205,7 @@ fn take_last(count: Count, b: Body, a: Triple, from: u64, out: &mut [f64]) -> An
 }
 
 // The right answer at waiting point w of a sound run.
+#[tactic(auto, unfolding(crate::specs::Answers::answered_at, run::specs::Samples::numbers_of))]
 pub fn take(w: Waiting, count: Count, b: Body, a: Triple, from: u64, out: &mut [f64]) -> Answered
     requires { Ready w b }
     ensures { (result ≡ (answered_at w count b a (tens from out.old)).got) × (out.new ≡ numbers_of (answered_at w count b a (tens from out.old)).out) }
@@ -211,7 +223,6 @@ pub fn take(w: Waiting, count: Count, b: Body, a: Triple, from: u64, out: &mut [
         Waiting::Step(n) => take_step(n, count, b, a, from, out),
         Waiting::Tail(s) => take_tail(s, count, b, a),
         Waiting::TailSample => take_last(count, b, a, from, out),
-        Waiting::Ended => outcomes::end(Outcome::Refused(Refusal::NoQuestion)),
-        Waiting::Unknown => outcomes::end(Outcome::Refused(Refusal::NoQuestion)),
+        Waiting::Ended | Waiting::Unknown => outcomes::end(Outcome::Refused(Refusal::NoQuestion)),
     }
 }

@@ -3,9 +3,7 @@
 ghost use Rattle.std.specs.Prelude.{◌≡◌, ◌+◌, ◌-◌};
 ghost use Rattle.intervals.specs.Table.{count_of, time_of, no_sample, sample_of};
 
-use triple::{Sample, Triple};
-
-pub const SAMPLE_WIDTH: usize = 10;
+use triple::{SAMPLE_WIDTH, Sample, Triple};
 
 // How many whole samples there are.
 pub fn count_of(samples: &[f64]) -> usize

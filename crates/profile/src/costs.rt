@@ -10,8 +10,7 @@ ghost use Rattle.profile.specs.Countable.{far_apart, Countable, Far, Apart};
 
 use crate::{Cost, wholes};
 use plan::{Settings, limits};
-
-const SAMPLE_WIDTH: u64 = 10;
+use triple::SAMPLE_WIDTH;
 
 // K, of any whole numbers within the bounds.
 fn steps_for(span: u64, step: u64) -> u64
@@ -92,7 +91,7 @@ fn cost_for(s: Settings, span: u64, step: u64, steps: u64) -> Cost
     Cost {
         steps,
         samples,
-        numbers: SAMPLE_WIDTH * samples,
+        numbers: (SAMPLE_WIDTH as u64) * samples,
         least,
         most,
     }

@@ -1,6 +1,7 @@
 -- A sample's place, by the quotient that the code tests; and the startup's samples, stored one after the other.
 use mathlib.Core.Path.{◌≡◌, refl, sym, ap, ◌∙◌}
 use Prim.Native.Nat.{ℕ, ◌+◌, ◌-◌, ◌*◌, ◌/◌, ◌≤◌, ◌<◌}
+use mathlib.Core.Logic.{◌⊎◌, inl, inr}
 use native.Mathlib.Omega.{arith}
 use mathlib.Core.Bool.{Bool, true, false, ◌&&◌, cond}
 use mathlib.Core.List.{List, [], ◌∷◌}
@@ -26,13 +27,10 @@ module _ (from n m room : ℕ) where
   unfolding is_placed
   placed_is h = let b = both (leb from n) (leb (sample_width * (n - from + m)) room) h in (leb-true _ _ b.0, leb-true _ _ b.1)
 
-  pub before_it : n < from → is_placed from n m room ≡ false
+  pub not_placed : (n < from) ⊎ ((from ≤ n) × (room / sample_width < m)) → false ≡ is_placed from n m room
   unfolding is_placed
-  before_it h = rw (lt-leb from n h)
-
-  pub too_few : room / sample_width < m → is_placed from n m room ≡ false
-  unfolding is_placed
-  too_few h = no_and (leb from n) (lt-leb (sample_width * (n - from + m)) room (omega (arith, h)))
+  not_placed (inl h) = rw (lt-leb from n h)
+  not_placed (inr h) = sym (no_and (leb from n) (lt-leb (sample_width * (n - from + m)) room (omega (arith, h.1))))
 
   pub by_quotient : from ≤ n → m ≤ room / sample_width → leb (n - from) (room / sample_width - m) ≡ is_placed from n m room
   unfolding is_placed
@@ -46,10 +44,6 @@ module _ (from n : ℕ) (l : List Float) where
   pub fits_here : from ≤ n → n - from < length l / sample_width → is_placed from n 1 (length l) ≡ true
   unfolding is_placed
   fits_here h k = rw (le-leb from n h, le-leb (sample_width * (n - from + 1)) (length l) (omega (arith, k)))
-
-  pub no_fit : length l / sample_width ≤ n - from → is_placed from n 1 (length l) ≡ false
-  unfolding is_placed
-  no_fit k = no_and (leb from n) (lt-leb (sample_width * (n - from + 1)) (length l) (omega (arith, k)))
 
 -- ---- a room keeps its length, and so its places
 pub length_written : (i : ℕ) (s : Sample) (l : List Float) → length (written i s l) ≡ length l

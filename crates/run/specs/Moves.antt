@@ -23,27 +23,27 @@ use Rattle.conditions.specs.Conditions.{left_at}
 use Rattle.run.specs.Tracks.{start_track, track_on, tail_from}
 use Rattle.run.specs.Questions.{grid_point}
 
--- ---- a body with one part changed: there is no record update, so each is written once
+-- ---- a body with one part changed
 abbrev with_places : Body → Places → Body
-with_places b x = record { plan = b.plan; places = x; a = b.a; slopes = b.slopes; widest = b.widest; startup_iters = b.startup_iters; track = b.track; trial = b.trial }
+with_places b x = record b { places = x }
 
 abbrev with_a : Body → List Triple → Body
-with_a b x = record { plan = b.plan; places = b.places; a = x; slopes = b.slopes; widest = b.widest; startup_iters = b.startup_iters; track = b.track; trial = b.trial }
+with_a b x = record b { a = x }
 
 abbrev with_slopes : Body → Slopes → Body
-with_slopes b x = record { plan = b.plan; places = b.places; a = b.a; slopes = x; widest = b.widest; startup_iters = b.startup_iters; track = b.track; trial = b.trial }
+with_slopes b x = record b { slopes = x }
 
 abbrev with_widest : Body → Widest → Body
-with_widest b x = record { plan = b.plan; places = b.places; a = b.a; slopes = b.slopes; widest = x; startup_iters = b.startup_iters; track = b.track; trial = b.trial }
+with_widest b x = record b { widest = x }
 
 abbrev with_passes : Body → ℕ → Body
-with_passes b x = record { plan = b.plan; places = b.places; a = b.a; slopes = b.slopes; widest = b.widest; startup_iters = x; track = b.track; trial = b.trial }
+with_passes b x = record b { startup_iters = x }
 
 abbrev with_track : Body → Track → Body
-with_track b x = record { plan = b.plan; places = b.places; a = b.a; slopes = b.slopes; widest = b.widest; startup_iters = b.startup_iters; track = x; trial = b.trial }
+with_track b x = record b { track = x }
 
 abbrev with_trial : Body → Trial → Body
-with_trial b x = record { plan = b.plan; places = b.places; a = b.a; slopes = b.slopes; widest = b.widest; startup_iters = b.startup_iters; track = b.track; trial = x }
+with_trial b x = record b { trial = x }
 
 -- before the first answer
 unfoldable pub fresh_body : Plan → Triple → Triple → Body
@@ -76,12 +76,16 @@ kept s b a = with_slopes b (with_slope s b.slopes a)
 unfoldable pub end_of : Point → Float → Slopes → Triple → State
 end_of p h l a = end_of_step p h l.l1 l.l2 l.l3 a
 
+-- an RK4 step over h from point i to point j
+abbrev pub moved : (i j : ℕ) → Float → Body → Triple → Body
+moved i j h b a = with_places b (placed j (end_of (grid_point b i) h b.slopes a) b.places)
+
 -- "RK4 forward to points 5, 6, 7, 8, then backward with -h to 3, 2, 1, 0"; each step starts from point i
 unfoldable pub moved_on : ℕ → Body → Triple → Body
-moved_on i b a = with_places b (placed (i + 1) (end_of (grid_point b i) b.plan.h b.slopes a) b.places)
+moved_on i b a = moved i (i + 1) b.plan.h b a
 
 unfoldable pub moved_back : ℕ → Body → Triple → Body
-moved_back i b a = with_places b (placed (i - 1) (end_of (grid_point b i) (neg b.plan.h) b.slopes a) b.places)
+moved_back i b a = moved i (i - 1) (neg b.plan.h) b a
 
 -- ---- a startup pass: all points corrected from the same a, then "the eight accelerations afresh, in order"
 unfoldable pub pass_begun : Body → Body

@@ -1,11 +1,21 @@
 -- The waiting point: plain numbers in the run, a case everywhere else. (01: "each place that asks becomes a named waiting point of the run".)
-use Rattle.std.specs.Prelude.{ℕ, zero, suc, ◌+◌, Bool, true, false, cond, leb, eqb}
+use Rattle.std.specs.Prelude.{ℕ, zero, suc, ◌+◌, ◌%◌, ◌^◌, Bool, true, false, cond, leb, eqb, Result, Ok, Err}
+use Rattle.run.specs.Limits.{numbering}
 use Rattle.run.specs.declared.Mark.{Mark}
 use Rattle.run.specs.declared.Count.{Count}
 use Rattle.run.specs.declared.waiting.Stage.{Stage}
 use Rattle.run.specs.declared.waiting.Stage.TheVariants.{First, Second, Third, Fourth}
+use Rattle.run.specs.declared.waiting.UnknownStage.{UnknownStage}
 use Rattle.run.specs.declared.waiting.Waiting.{Waiting}
 use Rattle.run.specs.declared.waiting.Waiting.TheVariants.{Epoch, Forward, Backward, Survey, Pass, Step, Tail, TailSample, Ended, Unknown}
+
+-- "Numbers start at 0 and rise by one for each accepted answer; after 65,535 the next question is numbered 0."
+unfoldable pub next_count : Count → Count
+next_count c = record { number = (c.number + 1) % numbering; evals = c.evals + 1 }
+
+-- the same in numbers of 64 bits, which no run within the settings' limits fills
+abbrev pub count_after : Count → Count
+count_after c = record { number = (c.number + 1) % numbering; evals = (c.evals + 1) % 2 ^ 64 }
 
 abbrev pub stage_number : Stage → ℕ
 stage_number First = 0
@@ -71,6 +81,10 @@ stage_from zero = First
 stage_from (suc zero) = Second
 stage_from (suc (suc zero)) = Third
 stage_from (suc (suc (suc n))) = Fourth
+
+-- as the code reads it: a number above 3 is no stage's
+unfoldable pub stage_read : ℕ → Result Stage UnknownStage
+stage_read n = cond (leb n 3) (Ok (stage_from n)) (Err (record { 0 = n }))
 
 -- by the number `at`
 unfoldable pub waiting_at : ℕ → ℕ → Stage → Waiting

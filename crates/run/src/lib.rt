@@ -3,6 +3,9 @@
 // `gauss_jackson`, which alone is meant for callers.
 #![tactic(auto)]
 
+ghost use Rattle.std.specs.Prelude.{◌≡◌};
+ghost use Rattle.run.specs.Waiting.{count_after};
+
 use plan::Plan;
 use startup::{Places, Widest};
 use sums::{Fixed, Sums};
@@ -38,6 +41,18 @@ pub struct Mark {
 pub struct Count {
     pub number: u16,
     pub evals: u64,
+}
+
+impl Count {
+    // The counts of the next question; its number wraps to 0 after 65,535.
+    pub fn next(self) -> Count
+        ensures { result ≡ count_after self }
+    {
+        Count {
+            number: self.number.wrapping_add(1),
+            evals: self.evals.wrapping_add(1),
+        }
+    }
 }
 
 // All that the questions to come depend on.

@@ -9,6 +9,7 @@ use crate::{Body, Slopes, Track};
 use triple::{Point, Triple};
 
 // The question that stage s of an RK4 step from p over h has open.
+#[tactic(auto, unfolding(crate::specs::Questions::stage_question))]
 fn stage_question(s: Stage, p: Point, h: f64, l: Slopes) -> Point
     ensures { result ≡ stage_question s p h l }
 {
@@ -21,6 +22,7 @@ fn stage_question(s: Stage, p: Point, h: f64, l: Slopes) -> Point
 }
 
 // Point i of the startup, with its time.
+#[tactic(auto, unfolding(crate::specs::Questions::grid_point))]
 pub fn grid_point(b: Body, i: u8) -> Point
     ensures { result ≡ grid_point b i }
 {
@@ -28,47 +30,39 @@ pub fn grid_point(b: Body, i: u8) -> Point
 }
 
 // The epoch, at t0 as it came.
+#[tactic(auto, unfolding(crate::specs::Questions::epoch_point, startup::specs::Points::state_at))]
 fn epoch_point(b: Body) -> Point
     ensures { result ≡ epoch_point b }
 {
-    let x = startup::state_at(b.places, 4);
-    let r = x.r;
-    let v = x.v;
-    Point { t: b.plan.t0, r, v }
+    startup::state_at(b.places, 4).at(b.plan.t0)
 }
 
 // The end of the open step.
+#[tactic(auto, unfolding(crate::specs::Questions::end_point, crate::specs::Tracks::step_point))]
 fn end_point(b: Body) -> Point
     ensures { result ≡ end_point b }
 {
-    let r = b.trial.state.r;
-    let v = b.trial.state.v;
-    Point {
-        t: b.track.t + b.plan.h,
-        r,
-        v,
-    }
+    b.trial.state.at(b.track.t + b.plan.h)
 }
 
 // Where the tail starts: the newest point.
+#[tactic(auto, unfolding(crate::specs::Tracks::tail_from))]
 pub fn tail_from(track: Track) -> Point
     ensures { result ≡ tail_from track }
 {
-    let r = track.state.r;
-    let v = track.state.v;
-    Point { t: track.t, r, v }
+    track.state.at(track.t)
 }
 
 // The end of the tail, at tf itself.
+#[tactic(auto, unfolding(crate::specs::Questions::last_point, crate::specs::Tracks::final_point))]
 fn last_point(b: Body) -> Point
     ensures { result ≡ last_point b }
 {
-    let r = b.trial.state.r;
-    let v = b.trial.state.v;
-    Point { t: b.plan.tf, r, v }
+    b.trial.state.at(b.plan.tf)
 }
 
 // No question is open there.
+#[tactic(auto, unfolding(crate::specs::Questions::no_point))]
 fn no_point() -> Point
     ensures { result ≡ no_point }
 {
@@ -80,6 +74,7 @@ fn no_point() -> Point
     }
 }
 
+#[tactic(auto, unfolding(crate::specs::Questions::question_at))]
 pub fn question_at(w: Waiting, b: Body) -> Point
     ensures { result ≡ question_at w b }
 {
@@ -87,8 +82,7 @@ pub fn question_at(w: Waiting, b: Body) -> Point
         Waiting::Epoch => epoch_point(b),
         Waiting::Forward(i, s) => stage_question(s, grid_point(b, i), b.plan.h, b.slopes),
         Waiting::Backward(i, s) => stage_question(s, grid_point(b, i), -b.plan.h, b.slopes),
-        Waiting::Survey(i) => grid_point(b, i),
-        Waiting::Pass(i) => grid_point(b, i),
+        Waiting::Survey(i) | Waiting::Pass(i) => grid_point(b, i),
         Waiting::Step(_) => end_point(b),
         Waiting::Tail(s) => {
             let from = tail_from(b.track);
@@ -96,7 +90,6 @@ pub fn question_at(w: Waiting, b: Body) -> Point
             stage_question(s, from, rem, b.slopes)
         }
         Waiting::TailSample => last_point(b),
-        Waiting::Ended => no_point(),
-        Waiting::Unknown => no_point(),
+        Waiting::Ended | Waiting::Unknown => no_point(),
     }
 }

@@ -1,74 +1,70 @@
 // SPDX-License-Identifier: MIT OR Apache-2.0
 // Samples: which there are, and where each goes in the lent room, whose first ten numbers are those of sample `from`. Ten numbers each, and
 // never one without its place.
-ghost use Rattle.std.specs.Prelude.{◌≡◌, ◌≤◌};
-ghost use Rattle.run.specs.Samples.{has_place, kept_sample, grid_sample, kept_point, kept_points, step_sample, last_sample};
+ghost use Rattle.std.specs.Prelude.{◌≡◌, ◌+◌, ◌≤◌, length};
+ghost use Rattle.triple.specs.Sampled.{sample_width};
+ghost use Rattle.run.specs.Samples.{is_placed, has_place, written, kept_sample, grid_sample, kept_point, kept_points, step_sample, last_sample};
 
-use crate::{Body, Track};
-use triple::{Sample, Triple, nine};
+use crate::{Body, Track, questions};
+use triple::{SAMPLE_WIDTH, Sample, Triple, nine};
 
-const SAMPLE_WIDTH: usize = 10;
+// Whether samples n to n + m - 1 have their place among so many numbers: by a quotient, since a product could wrap.
+fn is_placed(from: u64, n: u64, m: u64, room: usize) -> bool
+    ensures { result ≡ is_placed from n m room }
+{
+    let places = (room / SAMPLE_WIDTH) as u64;
+    if n < from || places < m {
+        return false;
+    }
+    n - from <= places - m
+}
 
-// Whether samples n to n + m - 1, if samples are wanted, have their place among so many numbers.
+// The same, if samples are wanted.
+#[tactic(auto, unfolding(crate::specs::Samples::has_place))]
 pub fn has_place(wanted: bool, from: u64, n: u64, m: u64, room: usize) -> bool
     ensures { result ≡ has_place wanted from n m room }
 {
-    if wanted {
-        if from > n {
-            return false;
-        }
-        let places = (room / SAMPLE_WIDTH) as u64;
-        if places < m {
-            return false;
-        }
-        return n - from <= places - m;
-    }
-    true
+    !wanted || is_placed(from, n, m, room)
+}
+
+// A sample's ten numbers from place i on.
+#[tactic(auto, unfolding(crate::specs::Samples::written))]
+fn write(i: usize, s: Sample, out: &mut [f64])
+    requires { i + sample_width ≤ length out.old }
+    ensures { out.new ≡ written i s out.old }
+{
+    out[i] = s.t;
+    out[i + 1] = s.r.x;
+    out[i + 2] = s.r.y;
+    out[i + 3] = s.r.z;
+    out[i + 4] = s.v.x;
+    out[i + 5] = s.v.y;
+    out[i + 6] = s.v.z;
+    out[i + 7] = s.a.x;
+    out[i + 8] = s.a.y;
+    out[i + 9] = s.a.z;
 }
 
 // Sample n at 10(n - from) and the nine numbers after it, where samples are wanted and it has its place there.
+#[tactic(auto, unfolding(crate::specs::Samples::kept_sample))]
 pub fn keep_sample(wanted: bool, from: u64, n: u64, s: Sample, out: &mut [f64])
     ensures { out.new ≡ kept_sample wanted from n s out.old }
 {
-    if wanted {
-        if n < from {
-            return;
-        }
-        let places = out.len() / SAMPLE_WIDTH;
-        if n - from < (places as u64) {
-            let i = SAMPLE_WIDTH * ((n - from) as usize);
-            out[i] = s.t;
-            out[i + 1] = s.r.x;
-            out[i + 2] = s.r.y;
-            out[i + 3] = s.r.z;
-            out[i + 4] = s.v.x;
-            out[i + 5] = s.v.y;
-            out[i + 6] = s.v.z;
-            out[i + 7] = s.a.x;
-            out[i + 8] = s.a.y;
-            out[i + 9] = s.a.z;
-            return;
-        }
+    if wanted && is_placed(from, n, 1, out.len()) {
+        write(SAMPLE_WIDTH * ((n - from) as usize), s, out);
     }
 }
 
 // Point i of the startup.
+#[tactic(auto, unfolding(crate::specs::Samples::grid_sample, crate::specs::Questions::grid_point, startup::specs::Points::point_at))]
 fn grid_sample(b: Body, i: u8) -> Sample
     ensures { result ≡ grid_sample b.plan b.places b.a i }
 {
-    let a = b.a;
-    let p = startup::point_at(b.plan.t0, b.plan.h, b.places, i);
-    let r = p.r;
-    let v = p.v;
-    Sample {
-        t: p.t,
-        r,
-        v,
-        a: nine::element(a, i as usize),
-    }
+    questions::grid_point(b, i).with(nine::element(b.a, i as usize))
 }
 
 // Point i of the startup, from 4 on, as sample i - 4.
+#[tactic(auto, unfolding(crate::specs::Samples::kept_point))]
 fn keep_point(wanted: bool, from: u64, b: Body, i: u8, out: &mut [f64])
     requires { 4 ≤ i }
     ensures { out.new ≡ kept_point wanted from b.plan b.places b.a i out.old }
@@ -77,6 +73,7 @@ fn keep_point(wanted: bool, from: u64, b: Body, i: u8, out: &mut [f64])
 }
 
 // Points 4 to 8 of the startup, as samples 0 to 4.
+#[tactic(auto, unfolding(crate::specs::Samples::kept_points))]
 pub fn keep_points(wanted: bool, from: u64, b: Body, out: &mut [f64])
     ensures { out.new ≡ kept_points wanted from b.plan b.places b.a out.old }
 {
@@ -88,29 +85,17 @@ pub fn keep_points(wanted: bool, from: u64, b: Body, out: &mut [f64])
 }
 
 // The newest point, with the newest of the accelerations.
+#[tactic(auto, unfolding(crate::specs::Samples::step_sample))]
 pub fn step_sample(track: Track, window: [Triple; 9]) -> Sample
     ensures { result ≡ step_sample track window }
 {
-    let r = track.state.r;
-    let v = track.state.v;
-    Sample {
-        t: track.t,
-        r,
-        v,
-        a: nine::element(window, 8),
-    }
+    track.state.at(track.t).with(nine::element(window, 8))
 }
 
 // The end of the tail, with its acceleration.
+#[tactic(auto, unfolding(crate::specs::Samples::last_sample))]
 pub fn last_sample(b: Body, a: Triple) -> Sample
     ensures { result ≡ last_sample b.plan b.trial.state a }
 {
-    let r = b.trial.state.r;
-    let v = b.trial.state.v;
-    Sample {
-        t: b.plan.tf,
-        r,
-        v,
-        a,
-    }
+    b.trial.state.at(b.plan.tf).with(a)
 }

@@ -11,57 +11,41 @@ use plan::{Plan, Settings, limits};
 
 const NUMBERING: u64 = 65536;
 
+#[tactic(auto, unfolding(crate::specs::Sound::is_sound))]
 pub fn is_sound(run: Run) -> bool
     ensures { result ≡ is_sound run }
 {
-    let mark = run.mark;
-    let b = run.body;
-    let count = mark.count;
-    if !limits::is_lawful(b.plan) {
+    if !limits::is_lawful(run.body.plan) {
         return false;
     }
-    if (count.number as u64) != count.evals % NUMBERING {
-        return false;
-    }
-    let w = waiting::waits_at(mark);
-    has_counts(w, count.evals, b)
+    let count = run.mark.count;
+    (count.number as u64) == count.evals % NUMBERING && has_counts(waiting::waits_at(run.mark), count.evals, run.body)
 }
 
 // No startup pass is made, and no step.
+#[tactic(auto, unfolding(crate::specs::Sound::is_idle))]
 fn is_idle(b: Body) -> bool
     ensures { result ≡ is_idle b }
 {
-    if b.startup_iters != 0 {
-        return false;
-    }
-    b.track.steps == 0
+    b.startup_iters == 0 && b.track.steps == 0
 }
 
+#[tactic(auto, unfolding(crate::specs::Sound::forward_counts))]
 fn forward_counts(i: u8, s: Stage, e: u64) -> bool
     ensures { result ≡ forward_counts i s e }
 {
-    if i < 4 {
-        return false;
-    }
-    if i > 7 {
-        return false;
-    }
-    e == 4 * (i as u64) + (waiting::stage_number(s) as u64) - 15
+    4 <= i && i <= 7 && e == 4 * (i as u64) + (u8::from(s) as u64) - 15
 }
 
+#[tactic(auto, unfolding(crate::specs::Sound::backward_counts))]
 fn backward_counts(i: u8, s: Stage, e: u64) -> bool
     ensures { result ≡ backward_counts i s e }
 {
-    if i < 1 {
-        return false;
-    }
-    if i > 4 {
-        return false;
-    }
-    e == 33 + (waiting::stage_number(s) as u64) - 4 * (i as u64)
+    1 <= i && i <= 4 && e == 33 + (u8::from(s) as u64) - 4 * (i as u64)
 }
 
 // How many of the eight points other than the epoch come before point i.
+#[tactic(auto, unfolding(crate::specs::Sound::rank_of))]
 fn rank_of(i: u8) -> u64
     ensures { result ≡ rank_of i }
 {
@@ -69,46 +53,34 @@ fn rank_of(i: u8) -> u64
 }
 
 // e answers, of which `before` came before the points were asked.
+#[tactic(auto, unfolding(crate::specs::Sound::point_counts))]
 fn point_counts(i: u8, before: u64, e: u64) -> bool
     requires { before < ample }
     ensures { result ≡ point_counts i before e }
 {
-    if i > 8 {
-        return false;
-    }
-    if i == 4 {
-        return false;
-    }
-    e == before + rank_of(i)
+    i <= 8 && i != 4 && e == before + rank_of(i)
 }
 
+#[tactic(auto, unfolding(crate::specs::Sound::pass_counts))]
 fn pass_counts(i: u8, e: u64, b: Body) -> bool
     requires { Small b.plan.settings }
     ensures { result ≡ pass_counts i e b }
 {
-    if b.startup_iters >= b.plan.settings.max_startup_iters {
-        return false;
-    }
-    if b.track.steps != 0 {
-        return false;
-    }
-    point_counts(i, 41 + 8 * b.startup_iters, e)
+    b.startup_iters < b.plan.settings.max_startup_iters
+        && b.track.steps == 0
+        && point_counts(i, 41 + 8 * b.startup_iters, e)
 }
 
 // Whether so many startup passes can have been made, of at most `most`.
+#[tactic(auto, unfolding(crate::specs::Sound::is_started_up))]
 fn is_started_up(passes: u64, most: u64) -> bool
     ensures { result ≡ is_started_up passes most }
 {
-    if passes > most {
-        return false;
-    }
-    if passes == 0 {
-        return most == 0;
-    }
-    true
+    passes <= most && (passes != 0 || most == 0)
 }
 
 // e answers after n steps, of which k belong to the open step.
+#[tactic(auto, unfolding(crate::specs::Sound::step_counts))]
 fn step_counts(k: u64, e: u64, s: Settings, passes: u64, n: u64) -> bool
     requires { Small s × (k < ample) }
     ensures { result ≡ step_counts k e s passes n }
@@ -116,17 +88,11 @@ fn step_counts(k: u64, e: u64, s: Settings, passes: u64, n: u64) -> bool
     if !is_started_up(passes, s.max_startup_iters) {
         return false;
     }
-    if n < 4 {
-        return false;
-    }
-    if n >= s.max_steps {
+    if n < 4 || n >= s.max_steps {
         return false;
     }
     let base = 41 + 8 * passes + k;
-    if e < base + (n - 4) {
-        return false;
-    }
-    e <= base + (n - 4) * (1 + s.max_corrector_iters)
+    base + (n - 4) <= e && e <= base + (n - 4) * (1 + s.max_corrector_iters)
 }
 
 fn body_counts(k: u64, e: u64, b: Body) -> bool
@@ -137,13 +103,11 @@ fn body_counts(k: u64, e: u64, b: Body) -> bool
 }
 
 // Whether a sound run waits at a step's end, by the parts that this takes: what `is_sound` finds there, without the rest of the run.
+#[tactic(auto, unfolding(crate::specs::Sound::is_open_step))]
 pub fn is_open_step(m: Mark, p: Plan, passes: u64, n: u64) -> bool
     ensures { result ≡ is_open_step m p passes n }
 {
-    if m.at != 6 {
-        return false;
-    }
-    if m.stage > 3 {
+    if m.at != 6 || m.stage > 3 {
         return false;
     }
     if !limits::is_lawful(p) {
@@ -153,47 +117,27 @@ pub fn is_open_step(m: Mark, p: Plan, passes: u64, n: u64) -> bool
     if (m.count.number as u64) != e % NUMBERING {
         return false;
     }
-    if (m.index as u64) > p.settings.max_corrector_iters {
-        return false;
-    }
-    step_counts(m.index as u64, e, p.settings, passes, n)
+    let k = m.index as u64;
+    k <= p.settings.max_corrector_iters && step_counts(k, e, p.settings, passes, n)
 }
 
+#[tactic(auto, unfolding(crate::specs::Sound::has_counts))]
 fn has_counts(w: Waiting, e: u64, b: Body) -> bool
     requires { Small b.plan.settings }
     ensures { result ≡ has_counts w e b }
 {
     match w {
-        Waiting::Epoch => if e == 0 { is_idle(b) } else { false },
-        Waiting::Forward(i, s) => if forward_counts(i, s, e) {
-            is_idle(b)
-        } else {
-            false
-        },
-        Waiting::Backward(i, s) => if backward_counts(i, s, e) {
-            is_idle(b)
-        } else {
-            false
-        },
-        Waiting::Survey(i) => if point_counts(i, 33, e) {
-            is_idle(b)
-        } else {
-            false
-        },
+        Waiting::Epoch => e == 0 && is_idle(b),
+        Waiting::Forward(i, s) => forward_counts(i, s, e) && is_idle(b),
+        Waiting::Backward(i, s) => backward_counts(i, s, e) && is_idle(b),
+        Waiting::Survey(i) => point_counts(i, 33, e) && is_idle(b),
         Waiting::Pass(i) => pass_counts(i, e, b),
         Waiting::Step(c) => {
-            if (c as u64) > b.plan.settings.max_corrector_iters {
-                return false;
-            }
-            body_counts(c as u64, e, b)
+            let k = c as u64;
+            k <= b.plan.settings.max_corrector_iters && body_counts(k, e, b)
         }
-        Waiting::Tail(s) => body_counts(waiting::stage_number(s) as u64, e, b),
-        Waiting::TailSample => if limits::wants_samples(b.plan.settings) {
-            body_counts(4, e, b)
-        } else {
-            false
-        },
-        Waiting::Ended => false,
-        Waiting::Unknown => false,
+        Waiting::Tail(s) => body_counts(u8::from(s) as u64, e, b),
+        Waiting::TailSample => limits::wants_samples(b.plan.settings) && body_counts(4, e, b),
+        Waiting::Ended | Waiting::Unknown => false,
     }
 }

@@ -1,12 +1,12 @@
 // SPDX-License-Identifier: MIT OR Apache-2.0
 // The waiting point: plain numbers in the run, one of these cases everywhere else.
 ghost use Rattle.std.specs.Prelude.{◌≡◌};
-ghost use Rattle.run.specs.Waiting.{stage_number, is_last, stage_after, at_number, index_number, stage_at, mark_at, stage_from, waits_at};
+ghost use Rattle.run.specs.Waiting.{stage_number, is_last, stage_after, at_number, index_number, stage_at, mark_at, stage_read, waits_at};
 
 use crate::{Count, Mark};
 
 // Which of its four questions an RK4 step has open.
-#[derive(Clone, Copy)]
+#[derive(Clone, Copy, PartialEq, Eq)]
 pub enum Stage {
     First,
     Second,
@@ -38,37 +38,55 @@ pub enum Waiting {
     Unknown,
 }
 
-pub fn stage_number(s: Stage) -> u8
-    ensures { result ≡ stage_number s }
-{
-    match s {
-        Stage::First => 0,
-        Stage::Second => 1,
-        Stage::Third => 2,
-        Stage::Fourth => 3,
+impl From<Stage> for u8 {
+    ghost from_gives = { λ s n. n ≡ stage_number s };
+
+    fn from(s: Stage) -> u8 {
+        match s {
+            Stage::First => 0,
+            Stage::Second => 1,
+            Stage::Third => 2,
+            Stage::Fourth => 3,
+        }
     }
 }
 
-// Whether its answer ends the RK4 step.
-pub fn is_last(s: Stage) -> bool
-    ensures { result ≡ is_last s }
-{
-    match s {
-        Stage::First => false,
-        Stage::Second => false,
-        Stage::Third => false,
-        Stage::Fourth => true,
+// A number that no stage has.
+#[derive(Clone, Copy)]
+pub struct UnknownStage(pub u8);
+
+impl TryFrom<u8> for Stage {
+    type Error = UnknownStage;
+
+    ghost try_from_gives = { λ n r. r ≡ stage_read n };
+
+    fn try_from(n: u8) -> Result<Self, UnknownStage> {
+        match n {
+            0 => Ok(Stage::First),
+            1 => Ok(Stage::Second),
+            2 => Ok(Stage::Third),
+            3 => Ok(Stage::Fourth),
+            _ => Err(UnknownStage(n)),
+        }
     }
 }
 
-pub fn stage_after(s: Stage) -> Stage
-    ensures { result ≡ stage_after s }
-{
-    match s {
-        Stage::First => Stage::Second,
-        Stage::Second => Stage::Third,
-        Stage::Third => Stage::Fourth,
-        Stage::Fourth => Stage::Fourth,
+impl Stage {
+    // Whether its answer ends the RK4 step.
+    pub fn is_last(self) -> bool
+        ensures { result ≡ is_last self }
+    {
+        self == Stage::Fourth
+    }
+
+    pub fn after(self) -> Stage
+        ensures { result ≡ stage_after self }
+    {
+        match self {
+            Stage::First => Stage::Second,
+            Stage::Second => Stage::Third,
+            Stage::Third | Stage::Fourth => Stage::Fourth,
+        }
     }
 }
 
@@ -93,16 +111,9 @@ fn index_number(w: Waiting) -> u8
     ensures { result ≡ index_number w }
 {
     match w {
-        Waiting::Forward(i, _) => i,
-        Waiting::Backward(i, _) => i,
-        Waiting::Survey(i) => i,
-        Waiting::Pass(i) => i,
-        Waiting::Step(c) => c,
-        Waiting::Ended => 0,
-        Waiting::Epoch => 0,
-        Waiting::Tail(_) => 0,
-        Waiting::TailSample => 0,
-        Waiting::Unknown => 0,
+        Waiting::Forward(i, _) | Waiting::Backward(i, _) => i,
+        Waiting::Survey(i) | Waiting::Pass(i) | Waiting::Step(i) => i,
+        _ => 0,
     }
 }
 
@@ -110,16 +121,8 @@ fn stage_at(w: Waiting) -> u8
     ensures { result ≡ stage_at w }
 {
     match w {
-        Waiting::Forward(_, s) => stage_number(s),
-        Waiting::Backward(_, s) => stage_number(s),
-        Waiting::Tail(s) => stage_number(s),
-        Waiting::Survey(_) => 0,
-        Waiting::Pass(_) => 0,
-        Waiting::Step(_) => 0,
-        Waiting::Ended => 0,
-        Waiting::Epoch => 0,
-        Waiting::TailSample => 0,
-        Waiting::Unknown => 0,
+        Waiting::Forward(_, s) | Waiting::Backward(_, s) | Waiting::Tail(s) => u8::from(s),
+        _ => 0,
     }
 }
 
@@ -127,26 +130,11 @@ fn stage_at(w: Waiting) -> u8
 pub fn mark_at(w: Waiting, count: Count) -> Mark
     ensures { result ≡ mark_at w count }
 {
-    let at = at_number(w);
-    let index = index_number(w);
-    let stage = stage_at(w);
     Mark {
-        at,
-        index,
-        stage,
+        at: at_number(w),
+        index: index_number(w),
+        stage: stage_at(w),
         count,
-    }
-}
-
-// From 3 on the fourth; `waits_at` has refused what lies above.
-fn stage_from(n: u8) -> Stage
-    ensures { result ≡ stage_from n }
-{
-    match n {
-        0 => Stage::First,
-        1 => Stage::Second,
-        2 => Stage::Third,
-        _ => Stage::Fourth,
     }
 }
 
@@ -154,20 +142,17 @@ fn stage_from(n: u8) -> Stage
 pub fn waits_at(m: Mark) -> Waiting
     ensures { result ≡ waits_at m }
 {
-    let at = m.at;
-    let index = m.index;
-    if m.stage > 3 {
+    let Ok(stage) = Stage::try_from(m.stage) else {
         return Waiting::Unknown;
-    }
-    let stage = stage_from(m.stage);
-    match at {
+    };
+    match m.at {
         0 => Waiting::Ended,
         1 => Waiting::Epoch,
-        2 => Waiting::Forward(index, stage),
-        3 => Waiting::Backward(index, stage),
-        4 => Waiting::Survey(index),
-        5 => Waiting::Pass(index),
-        6 => Waiting::Step(index),
+        2 => Waiting::Forward(m.index, stage),
+        3 => Waiting::Backward(m.index, stage),
+        4 => Waiting::Survey(m.index),
+        5 => Waiting::Pass(m.index),
+        6 => Waiting::Step(m.index),
         7 => Waiting::Tail(stage),
         8 => Waiting::TailSample,
         _ => Waiting::Unknown,

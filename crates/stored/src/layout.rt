@@ -72,7 +72,7 @@ pub fn uses_of(w: Waiting) -> Uses
             from: 4,
             last: i,
             epoch: true,
-            slopes: waiting::stage_number(s),
+            slopes: u8::from(s),
             ..none
         },
         Waiting::Backward(i, s) => Uses {
@@ -81,7 +81,7 @@ pub fn uses_of(w: Waiting) -> Uses
             from: i,
             last: 8,
             epoch: true,
-            slopes: waiting::stage_number(s),
+            slopes: u8::from(s),
             ..none
         },
         Waiting::Survey(i) => Uses {
@@ -114,7 +114,7 @@ pub fn uses_of(w: Waiting) -> Uses
         },
         Waiting::Tail(s) => Uses {
             stage: true,
-            slopes: waiting::stage_number(s),
+            slopes: u8::from(s),
             clock: true,
             state: true,
             ..none

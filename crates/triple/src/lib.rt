@@ -7,6 +7,7 @@ ghost use Rattle.std.specs.Prelude.{◌≡◌};
 ghost use Rattle.triple.specs.Arithmetic.{thrice, zeros, plus, minus, times, over};
 ghost use Rattle.triple.specs.Size.{absolute, larger_of, mean_square, size_of};
 ghost use Rattle.triple.specs.Finite.{is_finite};
+ghost use Rattle.triple.specs.Sampled.{state_at, with_acceleration};
 
 pub mod nine;
 
@@ -17,6 +18,9 @@ pub struct Triple {
     pub y: f64,
     pub z: f64,
 }
+
+// How many numbers a sample takes.
+pub const SAMPLE_WIDTH: usize = 10;
 
 // A position and a velocity, at a time that is known otherwise.
 #[repr(C)]
@@ -113,6 +117,32 @@ impl Triple {
         ensures { result ≡ size_of self }
     {
         root::root(self.mean_square())
+    }
+}
+
+impl State {
+    pub fn at(self, t: f64) -> Point
+        ensures { result ≡ state_at self t }
+    {
+        Point {
+            t,
+            r: self.r,
+            v: self.v,
+        }
+    }
+}
+
+impl Point {
+    // The sample of it.
+    pub fn with(self, a: Triple) -> Sample
+        ensures { result ≡ with_acceleration self a }
+    {
+        Sample {
+            t: self.t,
+            r: self.r,
+            v: self.v,
+            a,
+        }
     }
 }
 

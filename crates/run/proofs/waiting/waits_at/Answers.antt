@@ -1,49 +1,48 @@
 -- `waits_at` is `waits_at`.
-use borrow.Author.Tests.{le-leb, lt-leb}
-use Rattle.run.specs.Waiting.{waiting_at, waits_at}
-use Rattle.run.proofs.Decoding.{unknown}
+use mathlib.Core.Path.{sym, ◌∙◌}
+use native.Mathlib.Omega.{arith}
+use Rattle.run.specs.Waiting.{waiting_at}
+use Rattle.run.proofs.Decoding.{staged, unstaged, unknown}
 use Rattle.run.proofs.waiting.waits_at.Goals as goal
 
-pub returns-then-m-gt3 : goal.returns-then-m-gt3
-unfolding waits_at
-returns-then-m-gt3 c = simp (lt-leb _ _ c.if-m-gt3.true)
-
 pub returns-in-0 : goal.returns-in-0
-unfolding waits_at waiting_at
-returns-in-0 c = simp (le-leb _ _ c.if-m-gt3.false, c.in-0.is, c.stage_from-stage.ensures)
+unfolding waiting_at
+returns-in-0 c = rw (← staged c.args.m _ (sym c.in-Ok.is ∙ c.try_from.ensures), c.in-0.is)
 
 pub returns-in-1 : goal.returns-in-1
-unfolding waits_at waiting_at
-returns-in-1 c = simp (le-leb _ _ c.if-m-gt3.false, c.in-1.is, c.stage_from-stage.ensures)
+unfolding waiting_at
+returns-in-1 c = rw (← staged c.args.m _ (sym c.in-Ok.is ∙ c.try_from.ensures), c.in-1.is)
 
 pub returns-in-2 : goal.returns-in-2
-unfolding waits_at waiting_at
-returns-in-2 c = simp (le-leb _ _ c.if-m-gt3.false, c.in-2.is, c.stage_from-stage.ensures)
+unfolding waiting_at
+returns-in-2 c = rw (← staged c.args.m _ (sym c.in-Ok.is ∙ c.try_from.ensures), c.in-2.is)
 
 pub returns-in-3 : goal.returns-in-3
-unfolding waits_at waiting_at
-returns-in-3 c = simp (le-leb _ _ c.if-m-gt3.false, c.in-3.is, c.stage_from-stage.ensures)
+unfolding waiting_at
+returns-in-3 c = rw (← staged c.args.m _ (sym c.in-Ok.is ∙ c.try_from.ensures), c.in-3.is)
 
 pub returns-in-4 : goal.returns-in-4
-unfolding waits_at waiting_at
-returns-in-4 c = simp (le-leb _ _ c.if-m-gt3.false, c.in-4.is, c.stage_from-stage.ensures)
+unfolding waiting_at
+returns-in-4 c = rw (← staged c.args.m _ (sym c.in-Ok.is ∙ c.try_from.ensures), c.in-4.is)
 
 pub returns-in-5 : goal.returns-in-5
-unfolding waits_at waiting_at
-returns-in-5 c = simp (le-leb _ _ c.if-m-gt3.false, c.in-5.is, c.stage_from-stage.ensures)
+unfolding waiting_at
+returns-in-5 c = rw (← staged c.args.m _ (sym c.in-Ok.is ∙ c.try_from.ensures), c.in-5.is)
 
 pub returns-in-6 : goal.returns-in-6
-unfolding waits_at waiting_at
-returns-in-6 c = simp (le-leb _ _ c.if-m-gt3.false, c.in-6.is, c.stage_from-stage.ensures)
+unfolding waiting_at
+returns-in-6 c = rw (← staged c.args.m _ (sym c.in-Ok.is ∙ c.try_from.ensures), c.in-6.is)
 
 pub returns-in-7 : goal.returns-in-7
-unfolding waits_at waiting_at
-returns-in-7 c = simp (le-leb _ _ c.if-m-gt3.false, c.in-7.is, c.stage_from-stage.ensures)
+unfolding waiting_at
+returns-in-7 c = rw (← staged c.args.m _ (sym c.in-Ok.is ∙ c.try_from.ensures), c.in-7.is)
 
 pub returns-in-8 : goal.returns-in-8
-unfolding waits_at waiting_at
-returns-in-8 c = simp (le-leb _ _ c.if-m-gt3.false, c.in-8.is, c.stage_from-stage.ensures)
+unfolding waiting_at
+returns-in-8 c = rw (← staged c.args.m _ (sym c.in-Ok.is ∙ c.try_from.ensures), c.in-8.is)
+
+pub returns-in_default-at : goal.returns-in_default-at
+returns-in_default-at c = unknown _ (omega arith)
 
 pub returns-in_default : goal.returns-in_default
-unfolding waits_at
-returns-in_default c = simp (le-leb _ _ c.if-m-gt3.false) (unknown _ _ _ c.in_default.in_default-own.rest.0.0.0.0.0.0.0.0.1 c.in_default.in_default-own.rest.0.0.0.0.0.0.0.1 c.in_default.in_default-own.rest.0.0.0.0.0.0.1 c.in_default.in_default-own.rest.0.0.0.0.0.1 c.in_default.in_default-own.rest.0.0.0.0.1 c.in_default.in_default-own.rest.0.0.0.1 c.in_default.in_default-own.rest.0.0.1 c.in_default.in_default-own.rest.0.1 c.in_default.in_default-own.rest.1)
+returns-in_default c = unstaged _ _ (sym c.in_default.is ∙ c.try_from.ensures)
