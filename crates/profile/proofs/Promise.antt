@@ -9,11 +9,10 @@ use Rattle.refusals.specs.declared.Refusal.{Refusal}
 use Rattle.refusals.specs.declared.Refusal.TheVariants.{StepNotFinite, Setting, BlankDate, NotWhole, TooFewSteps}
 use Rattle.plan.specs.declared.Settings.{Settings}
 use Rattle.plan.specs.declared.Plan.{Plan}
-use Rattle.plan.specs.declared.Verdict.{Verdict}
 use Rattle.plan.specs.Limits.{are_within_limits, wants_samples}
 use Rattle.plan.specs.Plan.{plan_of, is_too_near}
 use Rattle.plan.specs.Lawful.{is_dated, is_lawful}
-use Rattle.plan.specs.Verdict.{fault_of, verdict_on}
+use Rattle.plan.specs.Verdict.{Verdict, fault_of, verdict_on}
 use Rattle.plan.proofs.Verdicts.{by_tests as verdict-by-tests}
 use Rattle.gauss_jackson.specs.Answers.{started}
 use Rattle.run.specs.declared.Run.{Run}
