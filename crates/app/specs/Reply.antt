@@ -1,6 +1,6 @@
 -- The outcome in plain numbers, for C: 01's number and values of each case. What a case has no use for is zero. m is how many samples the call
 -- stored (W-207).
-use Rattle.std.specs.Prelude.{ℕ, List}
+use Rattle.std.specs.Prelude.{ℕ, List, Result, Ok, Err}
 use Rattle.triple.specs.Arithmetic.{nought, zeros}
 use Rattle.refusals.specs.declared.Refusal.{Refusal}
 use Rattle.refusals.specs.Numbers.{number_of}
@@ -14,8 +14,7 @@ use Rattle.triple.specs.declared.Triple.{Triple}
 use Rattle.run.specs.declared.Track.{Track}
 use Rattle.run.specs.declared.Trial.{Trial}
 use Rattle.run.specs.declared.Run.{Run}
-use Rattle.profile.specs.declared.Foreseen.{Foreseen}
-use Rattle.profile.specs.declared.Foreseen.TheVariants.{Costs, Refused as NoCosts}
+use Rattle.profile.specs.declared.Cost.{Cost}
 use Rattle.profile.specs.declared.WholeTold.{WholeTold}
 use Rattle.profile.specs.declared.WholeStart.{WholeStart}
 use Rattle.profile.specs.Costs.{no_cost}
@@ -58,9 +57,9 @@ abbrev pub replied_of : Answered → Replied
 replied_of d = record { run = d.run; reply = answer_reply d }
 
 -- ---- the whole-second profile: no refusal is 0, and with a refusal no cost is told
-unfoldable pub cost_reply_of : Foreseen → CostReply
-cost_reply_of (Costs c) = record { cost = c; refusal = 0 }
-cost_reply_of (NoCosts e) = record { cost = no_cost; refusal = number_of e }
+unfoldable pub cost_reply_of : Result Cost Refusal → CostReply
+cost_reply_of (Ok c) = record { cost = c; refusal = 0 }
+cost_reply_of (Err e) = record { cost = no_cost; refusal = number_of e }
 
 unfoldable pub whole_reply_of : WholeTold → WholeReply
 whole_reply_of d = record { reply = reply_of d.outcome 0; cost = d.cost }

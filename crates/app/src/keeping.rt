@@ -12,8 +12,7 @@ use run::Run;
 pub fn stored_by(run: Run, out: &mut [u8]) -> u32
     ensures { (result ≡ number_told (storing run out.old)) × (out.new ≡ stored_in run out.old) }
 {
-    let told = stored::store(run, out);
-    refusals::number_told(told) as u32
+    u32::from(refusals::number_told(stored::store(run, out)))
 }
 
 // The run of the bytes with its open question; or `held` as it was and the refusal.

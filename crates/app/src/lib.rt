@@ -218,8 +218,7 @@ pub extern "C" fn gj_interpolate(t: f64, samples: &[f64], out: &mut [f64]) -> u3
     ensures value { result ≡ number_told (judged (t ∷ []) samples.now out.old) }
     ensures out_after { out.new ≡ interpolated t samples.now out.old }
 {
-    let told = dense::interpolate(t, samples, out);
-    refusals::number_told(told) as u32
+    u32::from(refusals::number_told(dense::interpolate(t, samples, out)))
 }
 
 // The same at each of the times, in one walk through the samples.
@@ -229,5 +228,5 @@ pub extern "C" fn gj_interpolate_batch(times: &[f64], samples: &[f64], out: &mut
     ensures out_after { out.new ≡ batched times.now samples.now out.old }
 {
     let told = dense::interpolate_batch(times, samples, out);
-    refusals::number_told(told) as u32
+    u32::from(refusals::number_told(told))
 }

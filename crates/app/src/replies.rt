@@ -9,7 +9,7 @@ ghost use Rattle.app.specs.Reply.{asks_for, finished_at, refused_by, reply_of, r
 use crate::{CostReply, Replied, Reply, WholeReplied, WholeReply};
 use gauss_jackson::{Outcome, Question, Solution};
 use plan::Settings;
-use profile::{Foreseen, WholeTold};
+use profile::{Cost, WholeTold};
 use refusals::Refusal;
 use run::Run;
 use triple::Triple;
@@ -52,10 +52,10 @@ fn finished_at(solution: Solution, stored: u64) -> Reply
     }
 }
 
+#[tactic(auto, unfolding(crate::specs::Reply::refused_by))]
 fn refused_by(refusal: Refusal, stored: u64) -> Reply
     ensures { result ≡ refused_by refusal stored }
 {
-    let number = refusals::number_of(refusal);
     let nothing = Triple::zero();
     Reply {
         t: 0.0,
@@ -66,7 +66,7 @@ fn refused_by(refusal: Refusal, stored: u64) -> Reply
         startup_iters: 0,
         stored,
         kind: 2,
-        refusal: number as u16,
+        refusal: u16::from(u8::from(refusal)),
         number: 0,
     }
 }
@@ -107,19 +107,16 @@ pub fn open_in(run: Run) -> Reply
     reply_of(gauss_jackson::open_question(run), 0)
 }
 
-pub fn cost_reply_of(forecast: Foreseen) -> CostReply
+#[tactic(auto, unfolding(crate::specs::Reply::cost_reply_of))]
+pub fn cost_reply_of(forecast: Result<Cost, Refusal>) -> CostReply
     ensures { result ≡ cost_reply_of forecast }
 {
     match forecast {
-        Foreseen::Costs(cost) => CostReply { cost, refusal: 0 },
-        Foreseen::Refused(refusal) => {
-            let cost = profile::no_cost();
-            let number = refusals::number_of(refusal);
-            CostReply {
-                cost,
-                refusal: number as u32,
-            }
-        }
+        Ok(cost) => CostReply { cost, refusal: 0 },
+        Err(refusal) => CostReply {
+            cost: profile::no_cost(),
+            refusal: u32::from(u8::from(refusal)),
+        },
     }
 }
 

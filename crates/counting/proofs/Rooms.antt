@@ -1,4 +1,5 @@
 -- Which rooms have the samples due at each call: one for all of them, and one for the next five.
+use Rattle.std.proofs.Common.{Ok, Err}
 use mathlib.Core.Path.{◌≡◌, sym, subst}
 use Prim.Native.Nat.{ℕ, ◌+◌, ◌-◌, ◌*◌, ◌%◌, ◌≤◌}
 use native.Mathlib.Nat.{add-zero}
@@ -16,10 +17,8 @@ use Rattle.triple.specs.declared.Sample.{Sample}
 use Rattle.triple.specs.Sampled.{sample_width}
 use Rattle.plan.specs.declared.Settings.{Settings}
 use Rattle.plan.specs.declared.Plan.{Plan}
-use Rattle.plan.specs.declared.Verdict.{Verdict}
-use Rattle.plan.specs.declared.Verdict.TheVariants.{Fine, Refuse}
 use Rattle.plan.specs.Plan.{plan_of}
-use Rattle.plan.specs.Verdict.{verdict_on}
+use Rattle.plan.specs.Verdict.{Verdict, verdict_on}
 use Rattle.run.specs.Limits.{numbering}
 use Rattle.run.specs.Samples.{Room, is_placed, has_room, put_all}
 use Rattle.run.proofs.Placing.{room_within}
@@ -165,10 +164,10 @@ module _ (p : Plan) where
 
   small_begun : (v : Verdict) (r0 v0 : Triple) (cs : List Call) → FiveMore 0 (begin_by v p r0 v0).line cs → Roomy (begin_by v p r0 v0).line cs
   unfolding begin_by settle integrate Always AsListed due Stands Few
-  small_begun Fine r0 v0 cs r =
+  small_begun (Ok u) r0 v0 cs r =
       roomy Few few_asked few_stored FiveMore small_here small_on 0 (settle (integrate p r0 v0) 0 0 no_room).line cs
       (λ (a : Triple). (by_the_clock p r0 v0 a, ((asks_as_listed p r0 v0).1 a).0, ((asks_as_listed p r0 v0).1 a).1)) r
-  small_begun (Refuse e) r0 v0 cs r = over_roomy cs
+  small_begun (Err e) r0 v0 cs r = over_roomy cs
 
 pub five_suffice : FiveSuffice
 unfolding begin

@@ -1,4 +1,5 @@
 -- Demand 3 of runs, from the theorem on trees and from `follows_the_rules`.
+use Rattle.std.proofs.Common.{Ok}
 use mathlib.Core.Path.{◌≡◌, sym, ap, ◌∙◌, subst}
 use Prim.Native.Nat.{ℕ, ◌≤◌, ◌<◌}
 use native.Mathlib.Omega.{arith}
@@ -7,7 +8,6 @@ use lib.IntN.{ℤ, nat_abs}
 use lib.Ieee.{Float}
 use Rattle.triple.specs.declared.Triple.{Triple}
 use Rattle.plan.specs.declared.Settings.{Settings}
-use Rattle.plan.specs.declared.Verdict.TheVariants.{Fine}
 use Rattle.plan.specs.Plan.{plan_of}
 use Rattle.plan.specs.Verdict.{verdict_on}
 use Rattle.rules.specs.Rules.{integrate}
@@ -24,13 +24,13 @@ use Rattle.counting.proofs.Lines.{Limits, going, finishing}
 use Rattle.counting.proofs.Starts.{accepted_start}
 
 -- an accepted start asks at its own values
-pub line_begins : (s : Settings) (t0 tf : Float) (r0 v0 : Triple) → verdict_on (plan_of s t0 tf) ≡ Fine
+pub line_begins : (s : Settings) (t0 tf : Float) (r0 v0 : Triple) → verdict_on (plan_of s t0 tf) ≡ Ok tt
     → told (started s t0 tf r0 v0).outcome ≡ question 0 (record { t = t0; r = r0; v = v0 })
 unfolding settle integrate plan_of
 line_begins s t0 tf r0 v0 accepted = (follows_the_rules s t0 tf r0 v0 []).first ∙ ap (λ (x : Stop). x.said) (accepted_start s t0 tf r0 v0 accepted)
 
 -- where its tree bears any claims out, with at most E answers and N samples, so does every line of calls with room
-module _ (s : Settings) (t0 tf : Float) (r0 v0 : Triple) (accepted : verdict_on (plan_of s t0 tf) ≡ Fine)
+module _ (s : Settings) (t0 tf : Float) (r0 v0 : Triple) (accepted : verdict_on (plan_of s t0 tf) ≡ Ok tt)
     (c : Claims) (E N : ℕ) (l : Limits c E N) (always : Always c 0 0 (integrate (plan_of s t0 tf) r0 v0)) where
   abbrev results : List Call → List Result
   results cs = played (started s t0 tf r0 v0).run cs

@@ -1,5 +1,6 @@
 -- With both tolerances zero or less what comes out is foretold by the clock, and a curve is read by its definition; the table is one computed test
 -- of both.
+use Rattle.std.proofs.Common.{Ok, Err}
 use mathlib.Core.Path.{◌≡◌, refl, sym, ap, ◌∙◌, subst}
 use Prim.Native.Nat.{ℕ, zero, suc, ◌+◌, ◌-◌, ◌≤◌, ◌<◌}
 use native.Mathlib.Omega.{arith}
@@ -16,12 +17,10 @@ use Rattle.quintic.specs.Quintic.{delta1, delta2, delta3, curve_of, position_on,
 use Rattle.startup.specs.Points.{offset, time_at}
 use Rattle.plan.specs.declared.Settings.{Settings}
 use Rattle.plan.specs.declared.Plan.{Plan}
-use Rattle.plan.specs.declared.Verdict.{Verdict}
-use Rattle.plan.specs.declared.Verdict.TheVariants.{Fine, Refuse}
 use Rattle.plan.specs.Limits.{are_within_limits, wants_samples}
 use Rattle.plan.specs.Plan.{direction_of, plan_of, is_too_near}
 use Rattle.plan.specs.Lawful.{is_dated, is_lawful}
-use Rattle.plan.specs.Verdict.{fault_of, verdict_on}
+use Rattle.plan.specs.Verdict.{Verdict, fault_of, verdict_on}
 use Rattle.conditions.specs.Conditions.{left_at, is_due, is_tail}
 use Rattle.run.proofs.Counts.{both}
 use Rattle.rules.specs.Rules.{integrate}
@@ -74,8 +73,8 @@ unfoldable run_fate : Plan → Fate
 run_fate p = fate_run (p.settings.max_steps - 4) p (time_at p.t0 p.h 8) 4
 
 unfoldable foretold_by : Verdict → Plan → Expected
-foretold_by Fine p = of_fate p (run_fate p)
-foretold_by (Refuse e) p = no_run (number_of e)
+foretold_by (Ok u) p = of_fate p (run_fate p)
+foretold_by (Err e) p = no_run (number_of e)
 
 unfoldable foretold : Example → Expected
 foretold (run s t0 tf) = foretold_by (verdict_on (plan_of s t0 tf)) (plan_of s t0 tf)
@@ -160,9 +159,9 @@ module _ (s : Settings) (t0 tf : Float) (r0 v0 : Triple) (never : NeverStops (pl
 
   by_verdict : (v : Verdict) → verdict_on p ≡ v → Meets r0 v0 (run s t0 tf) (foretold_by v p)
   unfolding foretold_by begin_by
-  by_verdict Fine e =
-      meets_fate (run_fate p) (begin_by_lem s t0 tf r0 v0 Fine e) (subst (λ (f : Fate). Always (clockwork p f) 0 0 (integrate p r0 v0)) run_is (by_the_clock p r0 v0))
-  by_verdict (Refuse r) e = ap (λ (x : Stop). x.said) (begin_by_lem s t0 tf r0 v0 (Refuse r) e)
+  by_verdict (Ok u) e =
+      meets_fate (run_fate p) (begin_by_lem s t0 tf r0 v0 (Ok tt) e) (subst (λ (f : Fate). Always (clockwork p f) 0 0 (integrate p r0 v0)) run_is (by_the_clock p r0 v0))
+  by_verdict (Err r) e = ap (λ (x : Stop). x.said) (begin_by_lem s t0 tf r0 v0 (Err r) e)
 
 -- ---- all rows
 unfoldable never_stops : Example → Bool

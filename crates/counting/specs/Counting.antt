@@ -1,10 +1,9 @@
 -- 01, "Counting beforehand", for whole numbers: z0 is the start, zf the end, and `step` the step's size.
 -- Demand 3 is `EndsOnTime`; the proof is `ends_on_time` in proofs/OnTime.antt.
-use Rattle.std.specs.Prelude.{◌≡◌, ℕ, ◌+◌, ◌-◌, ◌*◌, ◌/◌, ◌^◌, ◌≤◌, true, cond, eqb, ltb, ℤ, pos, nat_abs, ◌+ℤ◌, ◌-ℤ◌, Float}
+use Rattle.std.specs.Prelude.{◌≡◌, ℕ, ◌+◌, ◌-◌, ◌*◌, ◌/◌, ◌^◌, ◌≤◌, true, cond, eqb, ltb, ℤ, pos, nat_abs, ◌+ℤ◌, ◌-ℤ◌, Float, Ok}
 use Rattle.std.specs.Int.Signed.{le_z}
 use Rattle.triple.specs.declared.Triple.{Triple}
 use Rattle.plan.specs.declared.Settings.{Settings}
-use Rattle.plan.specs.declared.Verdict.TheVariants.{Fine}
 use Rattle.plan.specs.Limits.{are_within_limits, wants_samples}
 use Rattle.plan.specs.Plan.{plan_of}
 use Rattle.plan.specs.Verdict.{verdict_on}
@@ -102,5 +101,5 @@ on_time s t0 tf z0 zf step =
 
 -- a start within the bounds is accepted, and every path of its tree ends on time
 pub record EndsOnTime (s : Settings) (t0 tf : Float) (z0 zf hz : ℤ) (r0 v0 : Triple) : Type 0 where
-  pub accepted : verdict_on (plan_of s t0 tf) ≡ Fine
+  pub accepted : verdict_on (plan_of s t0 tf) ≡ Ok tt
   pub always : Always (on_time s t0 tf z0 zf (nat_abs hz)) 0 0 (integrate (plan_of s t0 tf) r0 v0)

@@ -2,14 +2,13 @@
 -- "9 shape: in interpolation: sample numbers not a multiple of 10, or output below 6 numbers a time"; "Interpolation 9, 3, 4; output past 6 numbers
 -- a time is untouched." Since W-203 the six are nine: "Its answer grows from six numbers to nine; both interpolations hand it on. Refusals: 9 reads
 -- nine numbers a time for the output." A refusal leaves the output untouched, "for a batch wholly".
-use Rattle.std.specs.Prelude.{ℕ, ◌+◌, ◌*◌, ◌/◌, ◌%◌, Bool, false, ◌||◌, not, cond, List, [], ◌∷◌, ltb, eqb, length, set, Float}
+use Rattle.std.specs.Prelude.{ℕ, ◌+◌, ◌*◌, ◌/◌, ◌%◌, Bool, false, ◌||◌, not, cond, List, [], ◌∷◌, ltb, eqb, length, set, Float, ⊤, Result, Ok, Err}
 use Rattle.std.specs.Float.Ieee.{lt}
 use Rattle.triple.specs.Sampled.{sample_width}
+use Rattle.refusals.specs.declared.Refusal.{Refusal}
 use Rattle.refusals.specs.declared.Refusal.TheVariants.{NoDenseOutput, InterpOutOfBounds, Shape}
 use Rattle.quintic.specs.declared.Between.{Between}
 use Rattle.quintic.specs.Quintic.{quintic_hermite}
-use Rattle.refusals.specs.declared.Told.{Told}
-use Rattle.refusals.specs.declared.Told.TheVariants.{Written, Refused}
 use Rattle.intervals.specs.declared.Ends.{Ends}
 use Rattle.intervals.specs.Table.{count_of, sample_of}
 use Rattle.intervals.specs.Intervals.{ends_of, interval_of, walked_to}
@@ -32,13 +31,13 @@ any_outside e [] = false
 any_outside e (t ∷ ts) = is_outside e t || any_outside e ts
 
 -- 9, 3, 4
-unfoldable pub judged : List Float → List Float → List Float → Told
+unfoldable pub judged : List Float → List Float → List Float → Result ⊤ Refusal
 judged times samples out =
     cond (is_misshapen times samples out)
-    (Refused Shape)
+    (Err Shape)
     (cond (ltb (count_of samples) 2)
-    (Refused NoDenseOutput)
-    (cond (any_outside (ends_of samples) times) (Refused InterpOutOfBounds) Written))
+    (Err NoDenseOutput)
+    (cond (any_outside (ends_of samples) times) (Err InterpOutOfBounds) (Ok tt)))
 
 -- ---- what is written
 -- on interval k, by its quintic
@@ -63,9 +62,9 @@ written_all l j k [] out = out
 written_all l j k (t ∷ ts) out = written_all l (j + 1) (walked_to l t k) ts (written j (value_at l (walked_to l t k) t) out)
 
 -- ---- the output when the call returns: `new`, or untouched by a refusal
-unfoldable pub unless : Told → List Float → List Float → List Float
-unless Written new old = new
-unless (Refused e) new old = old
+unfoldable pub unless : Result ⊤ Refusal → List Float → List Float → List Float
+unless (Ok u) new old = new
+unless (Err e) new old = old
 
 unfoldable pub interpolated : Float → List Float → List Float → List Float
 interpolated t samples out =

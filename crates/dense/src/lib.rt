@@ -6,7 +6,7 @@
 ghost use Rattle.std.specs.Prelude.{◌≡◌, [], ◌∷◌};
 ghost use Rattle.dense.specs.Interpolation.{judged, interpolated, batched};
 
-use refusals::Told;
+use refusals::Refusal;
 
 mod verdict;
 mod writing;
@@ -15,34 +15,25 @@ mod writing;
 pub const BETWEEN_NUMBERS: usize = 9;
 
 // Position, velocity and acceleration at t, as the first numbers of `out`.
-pub fn interpolate(t: f64, samples: &[f64], out: &mut [f64]) -> Told
+#[tactic(auto, unfolding(crate::specs::Interpolation::interpolated, crate::specs::Interpolation::unless))]
+pub fn interpolate(t: f64, samples: &[f64], out: &mut [f64]) -> Result<(), Refusal>
     ensures value { result ≡ judged (t ∷ []) samples.now out.old }
     ensures out_after { out.new ≡ interpolated t samples.now out.old }
 {
-    let one = [t];
-    let told = verdict::judge(&one, samples, out);
-    match told {
-        Told::Refused(e) => Told::Refused(e),
-        Told::Written => {
-            let k = intervals::interval_of(samples, t);
-            writing::store(0, writing::value(samples, k, t), out);
-            Told::Written
-        }
-    }
+    verdict::judge(&[t], samples, out)?;
+    let k = intervals::interval_of(samples, t);
+    writing::store(0, writing::value(samples, k, t), out);
+    Ok(())
 }
 
 // Position, velocity and acceleration at each of the times, one after the other in `out`. One walk through the table serves them all, so they are
 // meant to stand in the table's own order; they need not.
-pub fn interpolate_batch(times: &[f64], samples: &[f64], out: &mut [f64]) -> Told
+#[tactic(auto, unfolding(crate::specs::Interpolation::batched, crate::specs::Interpolation::unless))]
+pub fn interpolate_batch(times: &[f64], samples: &[f64], out: &mut [f64]) -> Result<(), Refusal>
     ensures value { result ≡ judged times.now samples.now out.old }
     ensures out_after { out.new ≡ batched times.now samples.now out.old }
 {
-    let told = verdict::judge(times, samples, out);
-    match told {
-        Told::Refused(e) => Told::Refused(e),
-        Told::Written => {
-            writing::write_all(times, samples, out);
-            Told::Written
-        }
-    }
+    verdict::judge(times, samples, out)?;
+    writing::write_all(times, samples, out);
+    Ok(())
 }

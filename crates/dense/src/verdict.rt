@@ -6,7 +6,7 @@ ghost use Rattle.dense.specs.Interpolation.{is_misshapen, is_outside, any_outsid
 
 use crate::BETWEEN_NUMBERS;
 use intervals::{Ends, table};
-use refusals::{Refusal, Told};
+use refusals::Refusal;
 
 // 9. The room is divided, since a product could overflow.
 fn is_misshapen(times: &[f64], samples: &[f64], out: &[f64]) -> bool
@@ -43,17 +43,18 @@ fn any_outside(times: &[f64], samples: &[f64]) -> bool
     false
 }
 
-pub fn judge(times: &[f64], samples: &[f64], out: &[f64]) -> Told
+#[tactic(auto, unfolding(crate::specs::Interpolation::judged))]
+pub fn judge(times: &[f64], samples: &[f64], out: &[f64]) -> Result<(), Refusal>
     ensures { result ≡ judged times.now samples.now out.now }
 {
     if is_misshapen(times, samples, out) {
-        return Told::Refused(Refusal::Shape);
+        return Err(Refusal::Shape);
     }
     if table::count_of(samples) < 2 {
-        return Told::Refused(Refusal::NoDenseOutput);
+        return Err(Refusal::NoDenseOutput);
     }
     if any_outside(times, samples) {
-        return Told::Refused(Refusal::InterpOutOfBounds);
+        return Err(Refusal::InterpOutOfBounds);
     }
-    Told::Written
+    Ok(())
 }

@@ -1,4 +1,5 @@
 -- The story along a tree on which claims hold: its samples are in order, each as claimed, and unless it ends by 15 it ends as claimed.
+use Rattle.std.proofs.Common.{Ok, Err}
 use mathlib.Core.Path.{◌≡◌, refl, sym, ap, subst, ◌∙◌}
 use mathlib.Core.Logic.{◌≢◌}
 use Prim.Native.Nat.{ℕ, ◌+◌, ◌≤◌}
@@ -12,11 +13,9 @@ use lib.Ieee.{Float}
 use Rattle.triple.specs.declared.Triple.{Triple}
 use Rattle.triple.specs.declared.Sample.{Sample}
 use Rattle.plan.specs.declared.Plan.{Plan}
-use Rattle.plan.specs.declared.Verdict.{Verdict}
-use Rattle.plan.specs.declared.Verdict.TheVariants.{Fine, Refuse}
 use Rattle.plan.specs.Limits.{wants_samples}
 use Rattle.plan.specs.Plan.{plan_of}
-use Rattle.plan.specs.Verdict.{verdict_on}
+use Rattle.plan.specs.Verdict.{Verdict, verdict_on}
 use Rattle.rules.specs.Rules.{Course, asks, stores, ends, exceeds, integrate}
 use Rattle.point_mass.specs.Force.{distance, is_too_low, pull}
 use Rattle.whole.specs.Whole.{IsWhole}
@@ -73,10 +72,10 @@ module _ (c : Claims) (E : (n ending : ℕ) → Type 0) (finish : (e n : ℕ) (t
 -- ---- every start
 clocked : (v : Verdict) (p : Plan) (r0 v0 : Triple) → InOrder (λ (n : ℕ) (t : Float). t ≡ sample_time p (fate_of p) n) 0 (story_by v p r0 v0).samples
 unfolding story_by clockwork InOrder
-clocked Fine p r0 v0 =
+clocked (Ok u) p r0 v0 =
     in_order_so _ _ (λ (n : ℕ) (t : Float) (h : (wants_samples p.settings ≡ true) × (n ≤ steps_of (fate_of p)) × (t ≡ sample_time p (fate_of p) n)). h.2) (story (integrate p r0 v0)).samples 0
     (along (clockwork p (fate_of p)) (λ (n ending : ℕ). Unit {0}) (λ e n t steps startups h. tt) (λ e n h. tt) (integrate p r0 v0) 0 0 (by_the_clock p r0 v0)).0
-clocked (Refuse e) p r0 v0 = tt
+clocked (Err e) p r0 v0 = tt
 
 pub story_by_the_clock : StoryByTheClock
 unfolding story_of

@@ -1,4 +1,5 @@
 -- Piece after piece, call after call: what is handed out is the story.
+use Rattle.std.proofs.Common.{Ok, Err}
 use mathlib.Core.Path.{◌≡◌, refl, sym, ap, subst, ◌∙◌}
 use mathlib.Core.Logic.{◌⊎◌, inl, inr}
 use Prim.Native.Nat.{ℕ, zero, suc, ◌+◌, ◌-◌, ◌*◌, ◌≤◌}
@@ -12,10 +13,8 @@ use Rattle.triple.specs.declared.Triple.{Triple}
 use Rattle.triple.specs.Sampled.{sample_width}
 use Rattle.plan.specs.declared.Settings.{Settings}
 use Rattle.plan.specs.declared.Plan.{Plan}
-use Rattle.plan.specs.declared.Verdict.{Verdict}
-use Rattle.plan.specs.declared.Verdict.TheVariants.{Fine, Refuse}
 use Rattle.plan.specs.Plan.{plan_of}
-use Rattle.plan.specs.Verdict.{verdict_on}
+use Rattle.plan.specs.Verdict.{Verdict, verdict_on}
 use Rattle.run.specs.Samples.{Room, tens, numbers_of, put_all}
 use Rattle.run.proofs.Placing.{length_put}
 use Rattle.gauss_jackson.specs.Answers.{started}
@@ -136,8 +135,8 @@ claims p = clockwork p (fate_of p)
 
 begins_so : (v : Verdict) (p : Plan) (r0 v0 : Triple) → Asked p (claims p) 0 0 0 (begin_by v p r0 v0) (story_by v p r0 v0) ⊎ Ended p (claims p) (begin_by v p r0 v0) (story_by v p r0 v0)
 unfolding begin_by story_by integrate Holds samples_ahead reached
-begins_so Fine p r0 v0 = settled p (claims p) (integrate p r0 v0) 0 0 0 no_room (by_the_clock p r0 v0) (asks_as_listed p r0 v0) tt
-begins_so (Refuse e) p r0 v0 = inr (record { said = refl; tale = refl })
+begins_so (Ok u) p r0 v0 = settled p (claims p) (integrate p r0 v0) 0 0 0 no_room (by_the_clock p r0 v0) (asks_as_listed p r0 v0) tt
+begins_so (Err e) p r0 v0 = inr (record { said = refl; tale = refl })
 
 module _ (s : Settings) (t0 tf : Float) (r0 v0 : Triple) where
   abbrev pub plan : Plan

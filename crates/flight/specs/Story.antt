@@ -1,16 +1,14 @@
 -- 02, W-207: what a forecast tells, by the rules' tree of questions and the pull of a point mass: the samples with their numbers, and how it
 -- ends. Nothing here knows of runs, rooms or calls.
-use Rattle.std.specs.Prelude.{ℕ, ◌+◌, cond, List, [], ◌∷◌, ◌++◌, Float}
+use Rattle.std.specs.Prelude.{ℕ, ◌+◌, cond, List, [], ◌∷◌, ◌++◌, Float, Ok, Err}
 use Rattle.triple.specs.declared.Triple.{Triple}
 use Rattle.triple.specs.declared.Sample.{Sample}
 use Rattle.refusals.specs.Numbers.{number_of}
 use Rattle.refusals.specs.declared.Refusal.TheVariants.{MaxStepsExceeded, TooLow}
 use Rattle.plan.specs.declared.Settings.{Settings}
 use Rattle.plan.specs.declared.Plan.{Plan}
-use Rattle.plan.specs.declared.Verdict.{Verdict}
-use Rattle.plan.specs.declared.Verdict.TheVariants.{Fine, Refuse}
 use Rattle.plan.specs.Plan.{plan_of}
-use Rattle.plan.specs.Verdict.{verdict_on}
+use Rattle.plan.specs.Verdict.{Verdict, verdict_on}
 use Rattle.rules.specs.Rules.{Course, asks, stores, ends, exceeds, integrate}
 use Rattle.point_mass.specs.Force.{distance, is_too_low, pull}
 
@@ -44,8 +42,8 @@ story exceeds = nothing_more (number_of MaxStepsExceeded)
 
 -- of a start: its refusal, or the story of the whole integration
 unfoldable pub story_by : Verdict → Plan → Triple → Triple → Story
-story_by Fine p r0 v0 = story (integrate p r0 v0)
-story_by (Refuse e) p r0 v0 = nothing_more (number_of e)
+story_by (Ok u) p r0 v0 = story (integrate p r0 v0)
+story_by (Err e) p r0 v0 = nothing_more (number_of e)
 
 unfoldable pub story_of : Settings → (t0 tf : Float) → (r0 v0 : Triple) → Story
 story_of s t0 tf r0 v0 = story_by (verdict_on (plan_of s t0 tf)) (plan_of s t0 tf) r0 v0

@@ -73,7 +73,7 @@ fn flight_of(next: u64, x: Answered) -> Flight
             ending: 0,
         },
         Outcome::Done(_solution) => land(run, next, 0),
-        Outcome::Refused(refusal) => land(run, next, refusals::number_of(refusal) as u64),
+        Outcome::Refused(refusal) => land(run, next, u64::from(u8::from(refusal))),
     }
 }
 

@@ -84,7 +84,7 @@ fn print_unread(flight: Flight, out: &mut [u8]) -> Printed
     requires { longest_piece ≤ length out.old }
     ensures { (result.forecast ≡ (unread_piece flight).forecast) × (result.count ≡ length (unread_piece flight).bytes) × (out.new ≡ put_over 0 (unread_piece flight).bytes out.old) }
 {
-    let number = refusals::number_of(Refusal::InputLine) as u64;
+    let number = u64::from(u8::from(Refusal::InputLine));
     let count = lines::put_refusal(number, 0, out);
     let forecast = Forecast {
         reads: false,

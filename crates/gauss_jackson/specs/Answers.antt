@@ -1,5 +1,5 @@
 -- What one call does: `started` and `answered` are what the contracts of `start` and `answer` cite. c counts the answers up to this one.
-use Rattle.std.specs.Prelude.{ℕ, ◌+◌, ◌-◌, cond, List, [], ◌∷◌, length, ◌==◌, nat_lt, Float}
+use Rattle.std.specs.Prelude.{ℕ, ◌+◌, ◌-◌, cond, List, [], ◌∷◌, length, ◌==◌, nat_lt, Float, Ok, Err}
 use Rattle.triple.specs.declared.Triple.{Triple}
 use Rattle.triple.specs.declared.State.{State}
 use Rattle.triple.specs.declared.Sample.{Sample}
@@ -10,11 +10,9 @@ use Rattle.sums.specs.Sums.{corrected_state}
 use Rattle.startup.specs.Passes.{is_settled}
 use Rattle.plan.specs.declared.Settings.{Settings}
 use Rattle.plan.specs.declared.Plan.{Plan}
-use Rattle.plan.specs.declared.Verdict.{Verdict}
-use Rattle.plan.specs.declared.Verdict.TheVariants.{Fine, Refuse}
 use Rattle.plan.specs.Limits.{wants_samples}
 use Rattle.plan.specs.Plan.{plan_of}
-use Rattle.plan.specs.Verdict.{verdict_on}
+use Rattle.plan.specs.Verdict.{Verdict, verdict_on}
 use Rattle.run.specs.declared.Count.{Count}
 use Rattle.run.specs.declared.Body.{Body}
 use Rattle.run.specs.declared.Run.{Run}
@@ -185,8 +183,8 @@ answered run n a out =
 
 -- ---- a start
 unfoldable pub started_by : Verdict → Plan → Triple → Triple → Answered
-started_by Fine p r0 v0 = asking Epoch (record { number = 0; evals = 0 }) (fresh_body p r0 v0)
-started_by (Refuse e) p r0 v0 = ending (Refused e)
+started_by (Ok u) p r0 v0 = asking Epoch (record { number = 0; evals = 0 }) (fresh_body p r0 v0)
+started_by (Err e) p r0 v0 = ending (Refused e)
 
 unfoldable pub started : Settings → Float → Float → Triple → Triple → Answered
 started s t0 tf r0 v0 = started_by (verdict_on (plan_of s t0 tf)) (plan_of s t0 tf) r0 v0

@@ -11,7 +11,6 @@ ghost use Rattle.gauss_jackson.specs.Answers.{ending, started, answered, open_qu
 ghost use Rattle.gauss_jackson.specs.declared.Outcome.TheVariants.{Refused};
 
 pub use plan::Settings;
-use plan::Verdict;
 use refusals::Refusal;
 pub use run::Run;
 use run::{sound, waiting};
@@ -81,14 +80,14 @@ pub fn refuse(refusal: Refusal) -> Answered
 }
 
 // A start: a run with its first question, or a refusal with a run that is ended.
+#[tactic(auto, unfolding(crate::specs::Answers::started, crate::specs::Answers::started_by))]
 pub fn start(settings: Settings, t0: f64, tf: f64, r0: Triple, v0: Triple) -> Answered
     ensures { result ≡ started settings t0 tf r0 v0 }
 {
     let plan = plan::plan_of(settings, t0, tf);
-    let verdict = plan::verdict_on(plan);
-    match verdict {
-        Verdict::Fine => outcomes::begin(plan, r0, v0),
-        Verdict::Refuse(refusal) => refuse(refusal),
+    match plan::verdict_on(plan) {
+        Ok(()) => outcomes::begin(plan, r0, v0),
+        Err(refusal) => refuse(refusal),
     }
 }
 

@@ -34,13 +34,6 @@ pub struct Plan {
     pub h: f64,
 }
 
-// What is said of a start.
-#[derive(Clone, Copy)]
-pub enum Verdict {
-    Fine,
-    Refuse(Refusal),
-}
-
 // 1 forward, -1 backward and where a time is NaN.
 pub fn direction_of(t0: f64, tf: f64) -> f64
     ensures { result ≡ direction_of t0 tf }
@@ -71,20 +64,18 @@ pub fn is_too_near(p: Plan) -> bool
 }
 
 // Whether a start with this plan is refused: 5, 12, then 1.
-pub fn verdict_on(plan: Plan) -> Verdict
+#[tactic(auto, unfolding(crate::specs::Verdict::verdict_on, crate::specs::Verdict::fault_of, crate::specs::Lawful::is_lawful))]
+pub fn verdict_on(plan: Plan) -> Result<(), Refusal>
     ensures { result ≡ verdict_on plan }
 {
-    let within = limits::are_within_limits(plan.settings);
-    let dated = limits::is_dated(plan);
-    let near = is_too_near(plan);
-    if !within {
-        return Verdict::Refuse(Refusal::Setting);
+    if !limits::are_within_limits(plan.settings) {
+        return Err(Refusal::Setting);
     }
-    if !dated {
-        return Verdict::Refuse(Refusal::BlankDate);
+    if !limits::is_dated(plan) {
+        return Err(Refusal::BlankDate);
     }
-    if near {
-        return Verdict::Refuse(Refusal::StepNotFinite);
+    if is_too_near(plan) {
+        return Err(Refusal::StepNotFinite);
     }
-    Verdict::Fine
+    Ok(())
 }

@@ -1,8 +1,9 @@
 -- The forecast, test by test: 5, 12, 13, 1, 14.
-use Rattle.std.proofs.Common.{◌≡◌, ℕ, ◌≤◌, Bool, true, false, cond, not, ltb, nat_abs, sym, ap, ◌∙◌, arith}
+use Rattle.std.proofs.Common.{◌≡◌, ℕ, ◌≤◌, Bool, true, cond, not, ltb, nat_abs, sym, ap, ◌∙◌, arith, Result, Ok, Err}
 use lib.Ieee.{Float}
-use borrow.Author.Tests.{not-true, not-false}
 use Rattle.triple.specs.Doubles.{Double}
+use Rattle.refusals.specs.declared.Refusal.{Refusal}
+use Rattle.profile.specs.declared.Cost.{Cost}
 use Rattle.refusals.specs.declared.Refusal.TheVariants.{StepNotFinite, Setting, BlankDate, NotWhole, TooFewSteps}
 use Rattle.plan.specs.declared.Settings.{Settings}
 use Rattle.plan.specs.declared.Plan.{Plan}
@@ -12,19 +13,10 @@ use Rattle.plan.specs.Lawful.{is_dated, is_lawful}
 use Rattle.run.specs.Ready.{Small}
 use Rattle.run.proofs.Counts.{to_small}
 use Rattle.counting.specs.Counting.{span_of, steps_for}
-use Rattle.profile.specs.declared.Foreseen.{Foreseen}
-use Rattle.profile.specs.declared.Foreseen.TheVariants.{Costs, Refused}
 use Rattle.profile.specs.Wholes.{whole_of, are_whole}
 use Rattle.profile.specs.Costs.{span_in, step_in, cost_for, forecast_of}
 use Rattle.profile.specs.Countable.{far_apart, Countable, Far, Apart}
 use Rattle.profile.proofs.Plainly.{three, far}
-
--- a test that the code made: x is what it has, y what the definition says
-pub holds : (x y : Bool) → x ≡ y → not x ≡ false → y ≡ true
-holds x y e h = sym e ∙ not-false _ h
-
-pub fails : (x y : Bool) → x ≡ y → not x ≡ true → y ≡ false
-fails x y e h = sym e ∙ not-true _ h
 
 -- ---- within the bounds
 pub countable : (t0 tf h : Float) (span step : ℕ) → are_whole t0 tf h ≡ true → span ≤ far_apart → step ≡ nat_abs (whole_of h) → Countable span step
@@ -37,10 +29,10 @@ module _ (s : Settings) (t0 tf : Float) where
   abbrev K : ℕ
   K = steps_for (span_in t0 tf) (step_in s)
 
-  abbrev chain : (l d w n k : Bool) → Foreseen
+  abbrev chain : (l d w n k : Bool) → Result Cost Refusal
   chain l d w n k =
-      cond (not l) (Refused Setting) (cond (not d) (Refused BlankDate) (cond (not w) (Refused NotWhole)
-      (cond n (Refused StepNotFinite) (cond k (Refused TooFewSteps) (Costs (cost_for s (span_in t0 tf) (step_in s)))))))
+      cond (not l) (Err Setting) (cond (not d) (Err BlankDate) (cond (not w) (Err NotWhole)
+      (cond n (Err StepNotFinite) (cond k (Err TooFewSteps) (Ok (cost_for s (span_in t0 tf) (step_in s)))))))
 
   pub by_tests : (l d w n k : Bool) → are_within_limits s ≡ l → is_dated p ≡ d → are_whole t0 tf s.h ≡ w → is_too_near p ≡ n → ltb s.max_steps K ≡ k → forecast_of s t0 tf ≡ chain l d w n k
   unfolding forecast_of
@@ -51,20 +43,7 @@ module _ (s : Settings) (t0 tf : Float) where
       ∙ ap (λ (z : Bool). chain l d w z (ltb s.max_steps K)) h
       ∙ ap (λ (z : Bool). chain l d w n z) i
 
-  -- ---- what the code holds: its plan q, its steps, span and step
-  pub dated_is : (q : Plan) (b : Bool) → q ≡ p → b ≡ is_dated q → b ≡ is_dated p
-  dated_is q b e f = f ∙ ap is_dated e
-
-  pub near_is : (q : Plan) (b : Bool) → q ≡ p → b ≡ is_too_near q → is_too_near p ≡ b
-  near_is q b e f = sym (f ∙ ap is_too_near e)
-
-  pub steps_are : (n : ℕ) → n ≡ cond (are_whole t0 tf s.h) (steps_for (span_of (whole_of t0) (whole_of tf)) (nat_abs (whole_of s.h))) 0 → are_whole t0 tf s.h ≡ true → n ≡ K
-  unfolding span_in step_in
-  steps_are n e w = e ∙ ap (λ (b : Bool). cond b (steps_for (span_of (whole_of t0) (whole_of tf)) (nat_abs (whole_of s.h))) 0) w
-
-  pub scarce_is : (n : ℕ) (b : Bool) → n ≡ K → ltb s.max_steps n ≡ b → ltb s.max_steps K ≡ b
-  scarce_is n b e h = ap (ltb s.max_steps) (sym e) ∙ h
-
+  -- ---- what the code holds: its steps, span and step
   pub far_is : (span step n : ℕ) → Double t0 → Double tf → Double s.h → span ≡ span_of (whole_of t0) (whole_of tf) → span ≤ far_apart → step ≡ nat_abs (whole_of s.h) → Apart s t0 tf n → Far span step n
   unfolding span_in step_in
   far_is span step n a b c e l f x =

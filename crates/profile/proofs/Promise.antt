@@ -1,5 +1,5 @@
 -- What the profile accepts is within 01's bounds, and so what it told is kept; what it refuses stands as said to the plain start.
-use Rattle.std.proofs.Common.{◌≡◌, ℕ, ◌+◌, ◌<◌, ◌≤◌, Bool, true, false, cond, not, ltb, List, sym, refl, ap, ◌∙◌, subst, arith, ltb-false}
+use Rattle.std.proofs.Common.{◌≡◌, ℕ, ◌+◌, ◌<◌, ◌≤◌, Bool, true, false, cond, not, ltb, List, sym, refl, ap, ◌∙◌, subst, arith, ltb-false, Result, Ok, Err}
 use mathlib.Core.Bool.{false≢true}
 use lib.Ieee.{Float}
 use borrow.Author.Tests.{not-false}
@@ -9,11 +9,10 @@ use Rattle.refusals.specs.declared.Refusal.{Refusal}
 use Rattle.refusals.specs.declared.Refusal.TheVariants.{StepNotFinite, Setting, BlankDate, NotWhole, TooFewSteps}
 use Rattle.plan.specs.declared.Settings.{Settings}
 use Rattle.plan.specs.declared.Plan.{Plan}
-use Rattle.plan.specs.declared.Verdict.{Verdict}
 use Rattle.plan.specs.Limits.{are_within_limits, wants_samples}
 use Rattle.plan.specs.Plan.{plan_of, is_too_near}
 use Rattle.plan.specs.Lawful.{is_dated, is_lawful}
-use Rattle.plan.specs.Verdict.{fault_of, verdict_on}
+use Rattle.plan.specs.Verdict.{Verdict, fault_of, verdict_on}
 use Rattle.plan.proofs.Verdicts.{by_tests as verdict-by-tests}
 use Rattle.gauss_jackson.specs.Answers.{started}
 use Rattle.run.specs.declared.Run.{Run}
@@ -31,8 +30,6 @@ use Rattle.counting.proofs.Lines.{Limits}
 use Rattle.counting.proofs.Runs.{line_begins, line_goes, line_ends, some_answers, finishes_on_time}
 use Rattle.counting.proofs.Rooms.{room_for_all}
 use Rattle.profile.specs.declared.Cost.{Cost}
-use Rattle.profile.specs.declared.Foreseen.{Foreseen}
-use Rattle.profile.specs.declared.Foreseen.TheVariants.{Costs, Refused}
 use Rattle.profile.specs.declared.WholeStart.{WholeStart}
 use Rattle.profile.specs.Wholes.{whole_of, are_whole}
 use Rattle.profile.specs.Costs.{span_in, step_in, cost_for, forecast_of}
@@ -43,15 +40,15 @@ use Rattle.profile.proofs.Plainly.{three, far}
 use Rattle.profile.proofs.Forecasts.{by_tests}
 
 -- ---- an accepted forecast has passed every test
-abbrev accepts : Foreseen → Bool
-accepts (Costs c) = true
-accepts (Refused e) = false
+abbrev accepts : Result Cost Refusal → Bool
+accepts (Ok c) = true
+accepts (Err e) = false
 
-abbrev cost_in : Cost → Foreseen → Cost
-cost_in d (Costs c) = c
-cost_in d (Refused e) = d
+abbrev cost_in : Cost → Result Cost Refusal → Cost
+cost_in d (Ok c) = c
+cost_in d (Err e) = d
 
-passed : (b : Bool) (e : Refusal) (x : Foreseen) (c : Cost) → cond b (Refused e) x ≡ Costs c → (b ≡ false) × (x ≡ Costs c)
+passed : (b : Bool) (e : Refusal) (x : Result Cost Refusal) (c : Cost) → cond b (Err e) x ≡ Ok c → (b ≡ false) × (x ≡ Ok c)
 passed true e x c h = absurd (false≢true (ap accepts h))
 passed false e x c h = (refl, h)
 
@@ -63,7 +60,7 @@ pub record Passed (s : Settings) (t0 tf : Float) (c : Cost) : Type 0 where
   pub ample : ltb s.max_steps (steps_for (span_in t0 tf) (step_in s)) ≡ false
   pub cost : c ≡ cost_for s (span_in t0 tf) (step_in s)
 
-pub accepted : (s : Settings) (t0 tf : Float) (c : Cost) → forecast_of s t0 tf ≡ Costs c → Passed s t0 tf c
+pub accepted : (s : Settings) (t0 tf : Float) (c : Cost) → forecast_of s t0 tf ≡ Ok c → Passed s t0 tf c
 unfolding forecast_of
 accepted s t0 tf c h =
     let a = passed (not (are_within_limits s)) Setting _ c h in
@@ -138,11 +135,11 @@ module _ (s : Settings) (t0 tf : Float) (r0 v0 : Triple) (b : Bounds s t0 tf (wh
   abbrev claims : Claims
   claims = as_told c (whole_of t0) (whole_of tf) (step_in s)
 
-  kept_promise : forecast_of s t0 tf ≡ Costs c → KeepsItsWord s t0 tf r0 v0 c
+  kept_promise : forecast_of s t0 tf ≡ Ok c → KeepsItsWord s t0 tf r0 v0 c
   unfolding started_whole whole_by with_cost cost_for span_in step_in
   kept_promise h =
       let fine = (ends_on_time b r0 v0).accepted in
-      let same : started_whole s t0 tf r0 v0 ≡ with_cost (started s t0 tf r0 v0) c = ap (λ (x : Foreseen). whole_by x (started s t0 tf r0 v0)) h in
+      let same : started_whole s t0 tf r0 v0 ≡ with_cost (started s t0 tf r0 v0) c = ap (λ (x : Result Cost Refusal). whole_by x (started s t0 tf r0 v0)) h in
       let run : (started s t0 tf r0 v0).run ≡ (started_whole s t0 tf r0 v0).run = sym (ap (λ (x : WholeStart). x.run) same) in
       record {
         plainly = same;
@@ -162,15 +159,15 @@ module _ (s : Settings) (t0 tf : Float) (r0 v0 : Triple) (b : Bounds s t0 tf (wh
 pub keeps : Promise
 keeps s t0 tf r0 v0 c f g k h =
     let p = accepted s t0 tf c h in
-    subst (KeepsItsWord s t0 tf r0 v0) (sym p.cost) (kept_promise s t0 tf r0 v0 (bounds_of s t0 tf c f g k p) (h ∙ ap Costs p.cost))
+    subst (KeepsItsWord s t0 tf r0 v0) (sym p.cost) (kept_promise s t0 tf r0 v0 (bounds_of s t0 tf c f g k p) (h ∙ ap Ok p.cost))
 
 -- ---- refused
 module _ (s : Settings) (t0 tf : Float) where
   abbrev p : Plan
   p = plan_of s t0 tf
 
-  abbrev counted : Foreseen
-  counted = cond (ltb s.max_steps (steps_for (span_in t0 tf) (step_in s))) (Refused TooFewSteps) (Costs (cost_for s (span_in t0 tf) (step_in s)))
+  abbrev counted : Result Cost Refusal
+  counted = cond (ltb s.max_steps (steps_for (span_in t0 tf) (step_in s))) (Err TooFewSteps) (Ok (cost_for s (span_in t0 tf) (step_in s)))
 
   of_whole : (l d n : Bool) → are_within_limits s ≡ l → is_dated p ≡ d → is_too_near p ≡ n → are_whole t0 tf s.h ≡ true → forecast_of s t0 tf ≡ or_else (verdict_on p) counted
   unfolding or_else plan_of
@@ -179,7 +176,7 @@ module _ (s : Settings) (t0 tf : Float) where
   of_whole true true true e f g w = by_tests s t0 tf true true true true _ e f w g refl ∙ sym (ap (λ (v : Verdict). or_else v counted) (verdict-by-tests p true true true e f g))
   of_whole true true false e f g w = by_tests s t0 tf true true true false _ e f w g refl ∙ sym (ap (λ (v : Verdict). or_else v counted) (verdict-by-tests p true true false e f g))
 
-  of_others : (l d : Bool) → are_within_limits s ≡ l → is_dated p ≡ d → are_whole t0 tf s.h ≡ false → forecast_of s t0 tf ≡ cond (is_lawful p) (Refused NotWhole) (Refused (fault_of p))
+  of_others : (l d : Bool) → are_within_limits s ≡ l → is_dated p ≡ d → are_whole t0 tf s.h ≡ false → forecast_of s t0 tf ≡ cond (is_lawful p) (Err NotWhole) (Err (fault_of p))
   unfolding is_lawful fault_of plan_of
   of_others false d e f w = rw (e) (by_tests s t0 tf false d false _ _ e f w refl refl)
   of_others true false e f w = rw (e, f) (by_tests s t0 tf true false false _ _ e f w refl refl)

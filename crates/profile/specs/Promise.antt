@@ -1,17 +1,16 @@
 -- W-206: "What it accepts, answered with room for the samples, always finishes; a plain start with the same values is accepted too, with the same
 -- questions." The proof is `keeps` in proofs/Promise.antt. And where a start is refused, how that stands to the plain start: `RefusesAlike`, proved there as
 -- `refuses_alike`; and `SameOne`, by `same_one` in proofs/Plainly.antt.
-use Rattle.std.specs.Prelude.{◌≡◌, ℕ, ◌*◌, ◌<◌, ◌≤◌, true, false, cond, List, ℤ, nat_lt, Float}
+use Rattle.std.specs.Prelude.{◌≡◌, ℕ, ◌*◌, ◌<◌, ◌≤◌, true, false, cond, List, ℤ, nat_lt, Float, Ok, Err, Result}
 use Rattle.triple.specs.declared.Triple.{Triple}
 use Rattle.triple.specs.Doubles.{Double}
 use Rattle.triple.specs.Sampled.{sample_width}
+use Rattle.refusals.specs.declared.Refusal.{Refusal}
 use Rattle.refusals.specs.declared.Refusal.TheVariants.{NotWhole, TooFewSteps}
 use Rattle.plan.specs.declared.Settings.{Settings}
-use Rattle.plan.specs.declared.Verdict.{Verdict}
-use Rattle.plan.specs.declared.Verdict.TheVariants.{Fine, Refuse}
 use Rattle.plan.specs.Plan.{plan_of, is_too_near}
 use Rattle.plan.specs.Lawful.{is_lawful}
-use Rattle.plan.specs.Verdict.{fault_of, verdict_on}
+use Rattle.plan.specs.Verdict.{Verdict, fault_of, verdict_on}
 use Rattle.gauss_jackson.specs.Answers.{started}
 use Rattle.rules.specs.Walk.{question, told, Call, begin}
 use Rattle.rules.specs.Follows.{played}
@@ -21,8 +20,6 @@ use Rattle.counting.specs.Counting.{steps_for, when_for, Bounds}
 use Rattle.counting.specs.Runs.{Going, answers_in, Finishes, FinishesOnTime}
 use Rattle.counting.specs.Rooms.{Roomy, Ample}
 use Rattle.profile.specs.declared.Cost.{Cost}
-use Rattle.profile.specs.declared.Foreseen.{Foreseen}
-use Rattle.profile.specs.declared.Foreseen.TheVariants.{Costs, Refused}
 use Rattle.profile.specs.Wholes.{whole_of, are_whole}
 use Rattle.profile.specs.Costs.{span_in, step_in, cost_for, forecast_of}
 use Rattle.profile.specs.Start.{with_cost, started_whole}
@@ -49,7 +46,7 @@ as_told c z0 zf step =
 pub record KeepsItsWord (s : Settings) (t0 tf : Float) (r0 v0 : Triple) (c : Cost) : Type 0 where
   -- the plain start's own run and question, and the cost; the question is number 0, at the values given
   pub plainly : started_whole s t0 tf r0 v0 ≡ with_cost (started s t0 tf r0 v0) c
-  pub accepted : verdict_on (plan_of s t0 tf) ≡ Fine
+  pub accepted : verdict_on (plan_of s t0 tf) ≡ Ok tt
   pub asks : told (started_whole s t0 tf r0 v0).told.outcome ≡ question 0 (record { t = t0; r = r0; v = v0 })
   -- the room in numbers is that in samples, and with room for so many from sample 0 on every call has room for the samples due at it
   pub room : c.numbers ≡ sample_width * c.samples
@@ -67,22 +64,22 @@ pub record KeepsItsWord (s : Settings) (t0 tf : Float) (r0 v0 : Triple) (c : Cos
 -- for all f64
 abbrev pub Promise : Type 0
 Promise =
-    (s : Settings) (t0 tf : Float) (r0 v0 : Triple) (c : Cost) → Double t0 → Double tf → Double s.h → forecast_of s t0 tf ≡ Costs c
+    (s : Settings) (t0 tf : Float) (r0 v0 : Triple) (c : Cost) → Double t0 → Double tf → Double s.h → forecast_of s t0 tf ≡ Ok c
     → KeepsItsWord s t0 tf r0 v0 c
 
 -- ---- refused
 -- what the plain start refuses is refused by the same number; what it takes is as x says
-unfoldable pub or_else : Verdict → Foreseen → Foreseen
-or_else Fine x = x
-or_else (Refuse e) x = Refused e
+unfoldable pub or_else : Verdict → Result Cost Refusal → Result Cost Refusal
+or_else (Ok u) x = x
+or_else (Err e) x = Err e
 
 pub record RefusesAlike (s : Settings) (t0 tf : Float) : Type 0 where
   -- of whole numbers within the bounds: 5, 12 and 1 as the plain start, and 14
   pub whole : are_whole t0 tf s.h ≡ true
       → forecast_of s t0 tf
-      ≡ or_else (verdict_on (plan_of s t0 tf)) (cond (nat_lt s.max_steps (steps_for (span_in t0 tf) (step_in s))) (Refused TooFewSteps) (Costs (cost_for s (span_in t0 tf) (step_in s))))
+      ≡ or_else (verdict_on (plan_of s t0 tf)) (cond (nat_lt s.max_steps (steps_for (span_in t0 tf) (step_in s))) (Err TooFewSteps) (Ok (cost_for s (span_in t0 tf) (step_in s))))
   -- of others: 5 and 12 as the plain start, and 13
-  pub others : are_whole t0 tf s.h ≡ false → forecast_of s t0 tf ≡ cond (is_lawful (plan_of s t0 tf)) (Refused NotWhole) (Refused (fault_of (plan_of s t0 tf)))
+  pub others : are_whole t0 tf s.h ≡ false → forecast_of s t0 tf ≡ cond (is_lawful (plan_of s t0 tf)) (Err NotWhole) (Err (fault_of (plan_of s t0 tf)))
 
 -- refusal 1's float test is here the test of whole numbers: the span is below eight steps; for all f64
 abbrev pub SameOne : Type 0

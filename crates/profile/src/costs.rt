@@ -21,6 +21,7 @@ fn steps_for(span: u64, step: u64) -> u64
 }
 
 // K from t0 to tf by h; 0 where they are not whole.
+#[tactic(auto, using(crate::proofs::Plainly::three, crate::proofs::Reading::step_is_time, crate::proofs::Forecasts::countable))]
 pub fn steps_between(t0: f64, tf: f64, h: f64) -> u64
     ensures { result ≡ (if are_whole t0 tf h then steps_for (span_of (whole_of t0) (whole_of tf)) (unsigned_abs (whole_of h)) else 0) }
 {

@@ -28,12 +28,6 @@ pub struct Cost {
     pub most: u64,
 }
 
-#[derive(Clone, Copy)]
-pub enum Foreseen {
-    Costs(Cost),
-    Refused(Refusal),
-}
-
 // What a start in this profile tells. With a refusal the cost is all zero.
 #[derive(Clone, Copy)]
 pub struct WholeTold {
@@ -62,33 +56,28 @@ pub fn no_cost() -> Cost
 }
 
 // What a run would take, without a run; or the refusal that its start would get: 5, 12, 13, 1 or 14, in this order.
-pub fn forecast(settings: Settings, t0: f64, tf: f64) -> Foreseen
+#[tactic(auto, using(crate::proofs::Forecasts::small), unfolding(crate::specs::Costs::forecast_of, crate::specs::Costs::span_in, crate::specs::Costs::step_in))]
+pub fn forecast(settings: Settings, t0: f64, tf: f64) -> Result<Cost, Refusal>
     ensures { result ≡ forecast_of settings t0 tf }
 {
     let plan = plan::plan_of(settings, t0, tf);
     let steps = costs::steps_between(t0, tf, settings.h);
-    let over = !limits::are_within_limits(settings);
-    let blank = !limits::is_dated(plan);
-    let broken = !wholes::are_whole(t0, tf, settings.h);
-    let near = plan::is_too_near(plan);
-    let scarce = settings.max_steps < steps;
-    if over {
-        return Foreseen::Refused(Refusal::Setting);
+    if !limits::are_within_limits(settings) {
+        return Err(Refusal::Setting);
     }
-    if blank {
-        return Foreseen::Refused(Refusal::BlankDate);
+    if !limits::is_dated(plan) {
+        return Err(Refusal::BlankDate);
     }
-    if broken {
-        return Foreseen::Refused(Refusal::NotWhole);
+    if !wholes::are_whole(t0, tf, settings.h) {
+        return Err(Refusal::NotWhole);
     }
-    if near {
-        return Foreseen::Refused(Refusal::StepNotFinite);
+    if plan::is_too_near(plan) {
+        return Err(Refusal::StepNotFinite);
     }
-    if scarce {
-        return Foreseen::Refused(Refusal::TooFewSteps);
+    if settings.max_steps < steps {
+        return Err(Refusal::TooFewSteps);
     }
-    let cost = costs::cost_between(settings, t0, tf, steps);
-    Foreseen::Costs(cost)
+    Ok(costs::cost_between(settings, t0, tf, steps))
 }
 
 fn with_cost(done: Answered, cost: Cost) -> WholeStart
@@ -101,12 +90,12 @@ fn with_cost(done: Answered, cost: Cost) -> WholeStart
 }
 
 // A start in this profile: the plain start's run with question 0, and the cost; or a refusal with a run that is ended.
+#[tactic(auto, unfolding(crate::specs::Start::started_whole, crate::specs::Start::whole_by))]
 pub fn start_whole(settings: Settings, t0: f64, tf: f64, r0: Triple, v0: Triple) -> WholeStart
     ensures { result ≡ started_whole settings t0 tf r0 v0 }
 {
-    let forecast = forecast(settings, t0, tf);
-    match forecast {
-        Foreseen::Costs(cost) => with_cost(gauss_jackson::start(settings, t0, tf, r0, v0), cost),
-        Foreseen::Refused(refusal) => with_cost(gauss_jackson::refuse(refusal), no_cost()),
+    match forecast(settings, t0, tf) {
+        Ok(cost) => with_cost(gauss_jackson::start(settings, t0, tf, r0, v0), cost),
+        Err(refusal) => with_cost(gauss_jackson::refuse(refusal), no_cost()),
     }
 }

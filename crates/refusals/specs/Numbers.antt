@@ -1,9 +1,7 @@
 -- 01, "Numbered answers", and 02: the number of each refusal.
-use Rattle.std.specs.Prelude.{ℕ}
+use Rattle.std.specs.Prelude.{ℕ, ⊤, Result, Ok, Err}
 use Rattle.refusals.specs.declared.Refusal.{Refusal}
 use Rattle.refusals.specs.declared.Refusal.TheVariants.{StepNotFinite, MaxStepsExceeded, NoDenseOutput, InterpOutOfBounds, Setting, SampleRoom, NoQuestion, NotThatQuestion, Shape, StoredShape, StoredContent, BlankDate, NotWhole, TooFewSteps, TooLow, InputLine}
-use Rattle.refusals.specs.declared.Told.{Told}
-use Rattle.refusals.specs.declared.Told.TheVariants.{Written, Refused}
 
 abbrev pub number_of : Refusal → ℕ
 number_of StepNotFinite = 1
@@ -31,6 +29,6 @@ number_of TooLow = 15
 number_of InputLine = 19
 
 -- a refusal's number, and 0 where all is written
-abbrev pub number_told : Told → ℕ
-number_told Written = 0
-number_told (Refused e) = number_of e
+abbrev pub number_told : Result ⊤ Refusal → ℕ
+number_told (Ok x) = 0
+number_told (Err e) = number_of e

@@ -3,7 +3,6 @@
 use crate::case::Cursor;
 use crate::{case, words};
 use gauss_jackson::{Answered, Outcome, Run};
-use refusals::Told;
 
 // The bytes of a stored run.
 const FORM: usize = 2048;
@@ -39,8 +38,8 @@ fn put_away_and_take_up(run: Run) -> Answered {
     let mut form = [0u8; FORM];
     let told = stored::store(run, &mut form);
     match told {
-        Told::Written => stored::load(run, &form),
-        Told::Refused(e) => {
+        Ok(()) => stored::load(run, &form),
+        Err(e) => {
             let outcome = Outcome::Refused(e);
             Answered {
                 run,

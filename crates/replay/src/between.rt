@@ -2,7 +2,7 @@
 // Lines that give samples outright, and lines that ask between the samples of the last case or table.
 use crate::words::Number;
 use crate::{Place, text, words};
-use refusals::Told;
+use refusals::Refusal;
 use std::io::{self, Stdout};
 
 // More floats than a line has room for, and the numbers told of so many times.
@@ -80,10 +80,10 @@ pub fn take_table(
 }
 
 // What is told: a line for each time, or the refusal.
-fn tell(to: &mut Stdout, told: Told, times: usize, out: &[f64]) -> io::Result<()> {
+fn tell(to: &mut Stdout, told: Result<(), Refusal>, times: usize, out: &[f64]) -> io::Result<()> {
     match told {
-        Told::Refused(e) => text::print_refused(to, refusals::number_of(e) as u64),
-        Told::Written => tell_each(to, times, out),
+        Err(e) => text::print_refused(to, u64::from(u8::from(e))),
+        Ok(()) => tell_each(to, times, out),
     }
 }
 

@@ -86,7 +86,7 @@ pub fn play(to: &mut Stdout, case: Case, whole: bool, samples: &mut [f64]) -> io
                 return finish(to, case, s, whole, samples);
             }
             Outcome::Refused(e) => {
-                text::print_refused(to, refusals::number_of(e) as u64)?;
+                text::print_refused(to, u64::from(u8::from(e)))?;
                 return Ok(0);
             }
         }

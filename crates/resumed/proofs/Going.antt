@@ -1,4 +1,5 @@
 -- A run of which every number is the machine's stays one, whatever is answered.
+use Rattle.std.proofs.Common.{Ok, Err}
 use Prim.Native.Nat.{ℕ, ◌+◌, ◌-◌}
 use mathlib.Core.Bool.{Bool, true, false, cond}
 use mathlib.Core.List.{List}
@@ -13,11 +14,9 @@ use Rattle.sums.specs.Sums.{corrected_state}
 use Rattle.startup.specs.Passes.{is_settled}
 use Rattle.plan.specs.declared.Settings.{Settings}
 use Rattle.plan.specs.declared.Plan.{Plan}
-use Rattle.plan.specs.declared.Verdict.{Verdict}
-use Rattle.plan.specs.declared.Verdict.TheVariants.{Fine, Refuse}
 use Rattle.plan.specs.Limits.{wants_samples}
 use Rattle.plan.specs.Plan.{plan_of}
-use Rattle.plan.specs.Verdict.{verdict_on}
+use Rattle.plan.specs.Verdict.{Verdict, verdict_on}
 use Rattle.run.specs.declared.Count.{Count}
 use Rattle.run.specs.declared.Body.{Body}
 use Rattle.run.specs.declared.Run.{Run}
@@ -137,8 +136,8 @@ answered_good run n x out g h =
 
 started_by_good : (v : Verdict) (p : Plan) (r0 v0 : Triple) → FitPlan p → Fit r0 → Fit v0 → GoodA (started_by v p r0 v0)
 unfolding started_by
-started_by_good Fine p r0 v0 h r v = asking_good Epoch _ _ (fresh_good p r0 v0 h r v)
-started_by_good (Refuse e) p r0 v0 h r v = ended_good _
+started_by_good (Ok u) p r0 v0 h r v = asking_good Epoch _ _ (fresh_good p r0 v0 h r v)
+started_by_good (Err e) p r0 v0 h r v = ended_good _
 
 pub started_good : (s : Settings) (t0 tf : Float) (r0 v0 : Triple) → F s.h → F s.corrector_tol → F s.startup_tol → F t0 → F tf → Fit r0 → Fit v0 → GoodA (started s t0 tf r0 v0)
 unfolding started plan_of

@@ -1,12 +1,12 @@
 -- W-201: "Demands 2 and 3 then speak of one line of answers from the start, storings and loadings included. Taking up an older form drops the
 -- answers accepted since: they no longer count and are asked again."
 -- The proof is `follows_with_forms` in proofs/Lines.antt.
-use Rattle.std.specs.Prelude.{◌≡◌, ℕ, List, [], ◌∷◌, ◌++◌, get_or, replicate, Float}
+use Rattle.std.specs.Prelude.{◌≡◌, ℕ, List, [], ◌∷◌, ◌++◌, get_or, replicate, Float, ⊤, Ok, Err}
+use Rattle.std.specs.Prelude.{Result as OkOrErr}
 use Rattle.triple.specs.declared.Triple.{Triple}
 use Rattle.refusals.specs.Numbers.{number_of}
+use Rattle.refusals.specs.declared.Refusal.{Refusal}
 use Rattle.refusals.specs.declared.Refusal.TheVariants.{StoredShape}
-use Rattle.refusals.specs.declared.Told.{Told}
-use Rattle.refusals.specs.declared.Told.TheVariants.{Written, Refused}
 use Rattle.plan.specs.declared.Settings.{Settings}
 use Rattle.run.specs.declared.Run.{Run}
 use Rattle.gauss_jackson.specs.declared.Answered.{Answered}
@@ -29,9 +29,9 @@ abbrev pub blank : List ℕ
 blank = replicate 2048 0
 
 -- where `store` refuses there is no further form
-unfoldable pub added_by : Told → (form : List ℕ) → (forms : List (List ℕ)) → List (List ℕ)
-added_by Written form forms = forms ++ (form ∷ [])
-added_by (Refused e) form forms = forms
+unfoldable pub added_by : OkOrErr ⊤ Refusal → (form : List ℕ) → (forms : List (List ℕ)) → List (List ℕ)
+added_by (Ok u) form forms = forms ++ (form ∷ [])
+added_by (Err e) form forms = forms
 
 unfoldable pub added : Run → List (List ℕ) → List (List ℕ)
 added run forms = added_by (storing run blank) (stored_in run blank) forms

@@ -13,10 +13,9 @@ use Rattle.startup.specs.declared.Places.{Places}
 use Rattle.startup.specs.Points.{first_places}
 use Rattle.plan.specs.declared.Settings.{Settings}
 use Rattle.plan.specs.declared.Plan.{Plan}
-use Rattle.plan.specs.declared.Verdict.{Verdict}
 use Rattle.plan.specs.Plan.{plan_of}
 use Rattle.plan.specs.Lawful.{is_lawful}
-use Rattle.plan.specs.Verdict.{fault_of, verdict_on}
+use Rattle.plan.specs.Verdict.{Verdict, fault_of, verdict_on}
 use Rattle.plan.proofs.Verdicts.{Case, not_lawful, too_near, fine, split}
 use Rattle.run.specs.declared.Run.{Run}
 use Rattle.run.specs.declared.waiting.Waiting.TheVariants.{Epoch}

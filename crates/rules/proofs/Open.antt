@@ -1,4 +1,5 @@
 -- A question that is told is one that can be answered.
+use Rattle.std.proofs.Common.{Ok, Err}
 use mathlib.Core.Path.{◌≡◌, refl, sym, ap, subst, ◌∙◌}
 use Prim.Native.Nat.{ℕ, ◌+◌, ◌%◌}
 use mathlib.Core.Bool.{Bool, true, false, cond, false≢true}
@@ -7,10 +8,8 @@ use lib.ListN.{length}
 use lib.Ieee.{Float}
 use Rattle.plan.specs.declared.Settings.{Settings}
 use Rattle.plan.specs.declared.Plan.{Plan}
-use Rattle.plan.specs.declared.Verdict.{Verdict}
-use Rattle.plan.specs.declared.Verdict.TheVariants.{Fine, Refuse}
 use Rattle.plan.specs.Plan.{plan_of}
-use Rattle.plan.specs.Verdict.{verdict_on}
+use Rattle.plan.specs.Verdict.{Verdict, verdict_on}
 use Rattle.run.specs.declared.Run.{Run}
 use Rattle.triple.specs.declared.Triple.{Triple}
 use Rattle.run.specs.Limits.{numbering}
@@ -70,8 +69,8 @@ called_left over k = nothing_asked 7 k.out over
 
 begun_left : (v : Verdict) (p : Plan) (r0 v0 : Triple) → Left (begin_by v p r0 v0)
 unfolding begin_by
-begun_left Fine p r0 v0 = settled_left (integrate p r0 v0) 0 0 no_room
-begun_left (Refuse e) p r0 v0 = nothing_asked (number_of e) no_room over
+begun_left (Ok u) p r0 v0 = settled_left (integrate p r0 v0) 0 0 no_room
+begun_left (Err e) p r0 v0 = nothing_asked (number_of e) no_room over
 
 -- a line that is open is that of a sound run
 open_sound : (run : Run) → is_open (line_of run) ≡ true → is_sound run ≡ true

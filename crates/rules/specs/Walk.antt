@@ -1,6 +1,6 @@
 -- A line of calls against a tree of questions: what each call is told, and what its room then holds. By 01's numbers and values;
 -- nothing here knows how a run is kept.
-use Rattle.std.specs.Prelude.{ℕ, ◌+◌, ◌%◌, cond, List, [], ◌∷◌, eqb, length, Float}
+use Rattle.std.specs.Prelude.{ℕ, ◌+◌, ◌%◌, cond, List, [], ◌∷◌, eqb, length, Float, Ok, Err}
 use Rattle.triple.specs.declared.Triple.{Triple}
 use Rattle.triple.specs.declared.State.{State}
 use Rattle.triple.specs.declared.Point.{Point}
@@ -8,10 +8,8 @@ use Rattle.refusals.specs.Numbers.{number_of}
 use Rattle.refusals.specs.declared.Refusal.TheVariants.{MaxStepsExceeded, SampleRoom, NoQuestion, NotThatQuestion}
 use Rattle.plan.specs.declared.Settings.{Settings}
 use Rattle.plan.specs.declared.Plan.{Plan}
-use Rattle.plan.specs.declared.Verdict.{Verdict}
-use Rattle.plan.specs.declared.Verdict.TheVariants.{Fine, Refuse}
 use Rattle.plan.specs.Plan.{plan_of}
-use Rattle.plan.specs.Verdict.{verdict_on}
+use Rattle.plan.specs.Verdict.{Verdict, verdict_on}
 use Rattle.run.specs.Limits.{numbering}
 use Rattle.run.specs.Samples.{Room, tens, has_room, put_all}
 use Rattle.gauss_jackson.specs.declared.Outcome.{Outcome}
@@ -86,8 +84,8 @@ abbrev pub no_room : Room
 no_room = tens 0 []
 
 unfoldable pub begin_by : Verdict → Plan → Triple → Triple → Stop
-begin_by Fine p r0 v0 = settle (integrate p r0 v0) 0 0 no_room
-begin_by (Refuse e) p r0 v0 = record { said = refused (number_of e); stored = 0; out = no_room; line = over }
+begin_by (Ok u) p r0 v0 = settle (integrate p r0 v0) 0 0 no_room
+begin_by (Err e) p r0 v0 = record { said = refused (number_of e); stored = 0; out = no_room; line = over }
 
 unfoldable pub begin : Settings → Float → Float → Triple → Triple → Stop
 begin s t0 tf r0 v0 = begin_by (verdict_on (plan_of s t0 tf)) (plan_of s t0 tf) r0 v0

@@ -1,4 +1,5 @@
 -- Which places of the output are written: none past the times' own, and for every time of a call that writes.
+use Rattle.std.specs.Prelude.{⊤, Result, Ok, Err}
 use Prim.Native.Nat.{ℕ, ◌+◌, ◌*◌, ◌/◌, ◌%◌, ◌<◌, ◌≤◌}
 use mathlib.Core.Path.{◌≡◌, refl, ◌∙◌}
 use mathlib.Core.Bool.{Bool, true, false, cond, ◌||◌, not}
@@ -11,9 +12,8 @@ use lib.Ieee.{Float, nan}
 use borrow.Author.Tests.{ltb-false}
 use Rattle.triple.specs.declared.Triple.{Triple}
 use Rattle.quintic.specs.declared.Between.{Between}
+use Rattle.refusals.specs.declared.Refusal.{Refusal}
 use Rattle.refusals.specs.declared.Refusal.TheVariants.{NoDenseOutput, InterpOutOfBounds, Shape}
-use Rattle.refusals.specs.declared.Told.{Told}
-use Rattle.refusals.specs.declared.Told.TheVariants.{Written, Refused}
 use Rattle.intervals.specs.Table.{count_of}
 use Rattle.intervals.specs.Intervals.{ends_of, interval_of, walked_to}
 use Rattle.dense.specs.Interpolation.{between_numbers, put_from, is_misshapen, any_outside, judged, value_at, written, written_all, unless, interpolated, batched}
@@ -50,10 +50,10 @@ each_past l j k (t ∷ ts) out p h =
     each_past l (j + 1) (walked_to l t k) ts (written j (value_at l (walked_to l t k) t) out) p (omega arith)
     ∙ put_past j (value_at l (walked_to l t k) t) out p (omega arith)
 
-unless_past : (told : Told) (new old : List Float) (p : ℕ) → get_or new p nan ≡ get_or old p nan → get_or (unless told new old) p nan ≡ get_or old p nan
+unless_past : (told : Result ⊤ Refusal) (new old : List Float) (p : ℕ) → get_or new p nan ≡ get_or old p nan → get_or (unless told new old) p nan ≡ get_or old p nan
 unfolding unless
-unless_past Written new old p e = e
-unless_past (Refused r) new old p e = refl
+unless_past (Ok u) new old p e = e
+unless_past (Err r) new old p e = refl
 
 pub past_untouched : PastUntouched
 unfolding batched
@@ -65,7 +65,7 @@ past_untouched_one t samples out p h =
     unless_past (judged (t ∷ []) samples out) _ out p (put_past 0 (value_at samples (interval_of samples t) t) out p (omega arith))
 
 -- a call that writes is not misshapen
-well_shaped : (m few any : Bool) → cond m (Refused Shape) (cond few (Refused NoDenseOutput) (cond any (Refused InterpOutOfBounds) Written)) ≡ Written → m ≡ false
+well_shaped : (m few any : Bool) → ◌≡◌ {A = Result ⊤ Refusal} (cond m (Err Shape) (cond few (Err NoDenseOutput) (cond any (Err InterpOutOfBounds) (Ok tt)))) (Ok tt) → m ≡ false
 well_shaped false few any e = refl
 well_shaped true few any e = let z : ◌≡◌ {A = ℕ} 0 1 = cc in absurd (omega arith)
 

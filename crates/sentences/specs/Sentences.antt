@@ -1,5 +1,5 @@
 -- Sentences of 01, and of W-203, that follow from the definitions. Each is proved in the file of proofs/ that is named beside it.
-use Rattle.std.specs.Prelude.{ℕ, ◌+◌, ◌*◌, ◌/◌, ◌<◌, ◌≤◌, ◌≡◌, ◌⊎◌, true, false, List, length, get_or, pos, Float}
+use Rattle.std.specs.Prelude.{ℕ, ◌+◌, ◌*◌, ◌/◌, ◌<◌, ◌≤◌, ◌≡◌, ◌⊎◌, true, false, List, length, get_or, pos, Float, Ok}
 use Rattle.std.specs.Float.{nan, fin, binary64}
 use Rattle.std.specs.Float.Ieee.{sub, mul, div, eq, of_int}
 use Rattle.triple.specs.declared.Triple.{Triple}
@@ -7,7 +7,6 @@ use Rattle.triple.specs.declared.Sample.{Sample}
 use Rattle.triple.specs.Arithmetic.{nought}
 use Rattle.triple.specs.Finite.{is_finite}
 use Rattle.triple.specs.Doubles.{Doubles}
-use Rattle.refusals.specs.declared.Told.TheVariants.{Written}
 use Rattle.quintic.specs.Quintic.{curve_of, quintic_hermite}
 use Rattle.intervals.specs.Table.{count_of, nans, sample_of, time_of}
 use Rattle.intervals.specs.Intervals.{is_forward, ends_of, is_short, interval_of, walked_to}
@@ -24,7 +23,7 @@ PastUntouchedOne = (t : Float) (samples out : List Float) (p : ℕ) → between_
 -- Where a call writes, every time has its place, so that `put` leaves out none (Places)
 abbrev pub PlaceForAll : Type 0
 PlaceForAll =
-    (times samples out : List Float) → judged times samples out ≡ Written → (j : ℕ) → j < length times → j < length out / between_numbers
+    (times samples out : List Float) → judged times samples out ≡ Ok tt → (j : ℕ) → j < length times → j < length out / between_numbers
 
 -- "A NaN time is not refused and gives NaN" (Nans)
 abbrev pub NanNotRefused : Type 0

@@ -1,4 +1,5 @@
 -- A refusal leaves all as it was.
+use Rattle.std.specs.Prelude.{⊤, Result, Ok, Err}
 use mathlib.Core.Path.{◌≡◌, refl, sym, ◌∙◌}
 use Prim.Native.Nat.{ℕ}
 use native.Mathlib.Omega.{arith}
@@ -7,8 +8,6 @@ use mathlib.Core.List.{List}
 use lib.Dec.{eqb}
 use lib.ListN.{length}
 use Rattle.refusals.specs.declared.Refusal.{Refusal}
-use Rattle.refusals.specs.declared.Told.{Told}
-use Rattle.refusals.specs.declared.Told.TheVariants.{Written, Refused}
 use Rattle.run.specs.declared.Run.{Run}
 use Rattle.run.specs.Waiting.{waits_at}
 use Rattle.run.specs.Sound.{is_sound}
@@ -30,7 +29,7 @@ sound_asks : {A : Type 0} (run : Run) (e : Refusal) → is_sound run ≡ true �
 unfolding open_question question_of
 sound_asks run e t h = let q : question_of (waits_at run.mark) run.mark.count run.body ≡ outcomes.Refused e = rw t at h in asked _ e q
 
-was_written : {A : Type 0} (t : Told) (e : Refusal) → t ≡ Written → t ≡ Refused e → A
+was_written : {A : Type 0} (t : Result ⊤ Refusal) (e : Refusal) → t ≡ Ok tt → t ≡ Err e → A
 was_written t e p r = let z : ◌≡◌ {A = ℕ} 0 1 = cc in absurd (omega arith)
 
 held : (run : Run) (bytes : List ℕ) (e : Refusal) → (loaded run bytes).outcome ≡ outcomes.Refused e → (loaded run bytes).run ≡ run
@@ -46,7 +45,7 @@ held run bytes e h = go (is_whole bytes) (is_stored_run (content_of bytes)) refl
     go true false p q = rw (p, q)
     go false s p q = rw p
 
-buffer : (run : Run) (out : List ℕ) (e : Refusal) → storing run out ≡ Refused e → stored_in run out ≡ out
+buffer : (run : Run) (out : List ℕ) (e : Refusal) → storing run out ≡ Err e → stored_in run out ≡ out
 unfolding storing stored_in written
 buffer run out e h = go (is_sound run) (eqb (length out) 2048) refl refl
   where

@@ -1,12 +1,10 @@
 -- What storing and loading make of each other. The proofs are `loaded_is_stored`, `stored_is_loaded` and `leaves_as_it_was` in proofs/.
-use Rattle.std.specs.Prelude.{◌≡◌, ℕ, ◌+◌, ◌-◌, ◌*◌, ◌/◌, ◌%◌, ◌<◌, Bool, true, ◌&&◌, cond, List, T, ltb, leb, length, get_or, Float}
+use Rattle.std.specs.Prelude.{◌≡◌, ℕ, ◌+◌, ◌-◌, ◌*◌, ◌/◌, ◌%◌, ◌<◌, Bool, true, ◌&&◌, cond, List, T, ltb, leb, length, get_or, Float, Ok, Err}
 use Rattle.std.specs.Float.{binary64}
 use Rattle.std.specs.Float.Ieee.{is_nan, fits}
 use Rattle.triple.specs.declared.Triple.{Triple}
 use Rattle.triple.specs.Arithmetic.{nought}
 use Rattle.refusals.specs.declared.Refusal.{Refusal}
-use Rattle.refusals.specs.declared.Told.TheVariants.{Written}
-use Rattle.refusals.specs.declared.Told.TheVariants as Told
 use Rattle.run.specs.declared.Run.{Run}
 use Rattle.run.specs.Waiting.{mark_at, waits_at}
 use Rattle.run.specs.Sound.{is_sound}
@@ -39,7 +37,7 @@ quieted c = row (quiet_word c) 504
 
 -- a form that `load` took, stored again: the same content, but for the patterns of NaN, and so the same bytes where each NaN has that pattern
 pub record StoredAgain (bytes : List ℕ) (run : Run) : Type 0 where
-  pub accepted : (out : List ℕ) → length out ≡ 2048 → storing run out ≡ Written
+  pub accepted : (out : List ℕ) → length out ≡ 2048 → storing run out ≡ Ok tt
   pub quiet : (out : List ℕ) → length out ≡ 2048 → stored_in run out ≡ form (quieted (content_of bytes))
   pub same : (out : List ℕ) → length out ≡ 2048 → quieted (content_of bytes) ≡ content_of bytes → stored_in run out ≡ bytes
 
@@ -71,4 +69,4 @@ StoredIsLoaded = (held run : Run) (out : List ℕ) → is_sound run ≡ true →
 -- ---- a refusal leaves all as it was: the run that the caller of `load` holds, and the buffer that was lent to `store`
 pub record LeavesAsItWas : Type 0 where
   pub held_run : (held : Run) (bytes : List ℕ) (e : Refusal) → (loaded held bytes).outcome ≡ Refused e → (loaded held bytes).run ≡ held
-  pub buffer : (run : Run) (out : List ℕ) (e : Refusal) → storing run out ≡ Told.Refused e → stored_in run out ≡ out
+  pub buffer : (run : Run) (out : List ℕ) (e : Refusal) → storing run out ≡ Err e → stored_in run out ≡ out

@@ -3,10 +3,10 @@
 #![tactic(auto)]
 
 ghost use Rattle.std.specs.Prelude.{◌≡◌};
-ghost use Rattle.stored.specs.Stored.{storing, stored_in, loaded};
+ghost use Rattle.stored.specs.Stored.{storing, stored_in, run_in, read_run, loaded};
 
 use gauss_jackson::{Answered, Outcome};
-use refusals::{Refusal, Told};
+use refusals::Refusal;
 use run::{Run, sound};
 
 mod content;
@@ -15,50 +15,65 @@ mod layout;
 mod triples;
 
 // The run as a stored form in `out`: 7, then 10, and then `out` is untouched.
-pub fn store(run: Run, out: &mut [u8]) -> Told
+#[tactic(auto, unfolding(crate::specs::Stored::storing, crate::specs::Stored::stored_in))]
+pub fn store(run: Run, out: &mut [u8]) -> Result<(), Refusal>
     ensures value { result ≡ storing run out.old }
     ensures out_after { out.new ≡ stored_in run out.old }
 {
-    if sound::is_sound(run) {
-        let words = content::content_of_run(run);
-        if blocks::write_to(&words, out) {
-            return Told::Written;
-        }
-        return Told::Refused(Refusal::StoredShape);
+    if !sound::is_sound(run) {
+        return Err(Refusal::NoQuestion);
     }
-    Told::Refused(Refusal::NoQuestion)
+    let words = content::content_of_run(run);
+    if blocks::write_to(&words, out) {
+        Ok(())
+    } else {
+        Err(Refusal::StoredShape)
+    }
+}
+
+// The run of a content, if it is one.
+#[tactic(auto, unfolding(crate::specs::Stored::run_in, crate::specs::Taken::is_stored_run))]
+fn run_in(words: &[u32; 504]) -> Option<Run>
+    ensures { result ≡ run_in words.now }
+{
+    if !judging::is_known(words) {
+        return None;
+    }
+    let run = judging::run_of(words);
+    if judging::is_unused_zero(words, run.mark) && sound::is_sound(run) {
+        Some(run)
+    } else {
+        None
+    }
+}
+
+// The run of a stored form; or 10, then 11.
+#[tactic(auto, using(blocks::proofs::Whole::whole_taken), unfolding(crate::specs::Stored::read_run))]
+fn read_run(bytes: &[u8]) -> Result<Run, Refusal>
+    ensures { result ≡ read_run bytes.now }
+{
+    let mut words = [0u32; 504];
+    if !blocks::read_into(bytes, &mut words) {
+        return Err(Refusal::StoredShape);
+    }
+    run_in(&words).ok_or(Refusal::StoredContent)
 }
 
 // The run of a stored form with its open question; or 10, then 11, and then `held`, the run that the caller has, comes back as it was.
+#[tactic(auto, unfolding(crate::specs::Stored::run_in, crate::specs::Stored::read_run, crate::specs::Stored::loaded, crate::specs::Stored::judged, crate::specs::Stored::taken_up, gauss_jackson::specs::Answers::refusing))]
 pub fn load(held: Run, bytes: &[u8]) -> Answered
     ensures { result ≡ loaded held bytes.now }
 {
-    let mut words = [0u32; 504];
-    if blocks::read_into(bytes, &mut words) {
-        if judging::is_known(&words) {
-            let run = judging::run_of(&words);
-            if judging::is_unused_zero(&words, run.mark) {
-                if sound::is_sound(run) {
-                    let outcome = gauss_jackson::open_question(run);
-                    return Answered {
-                        run,
-                        outcome,
-                        stored: 0,
-                    };
-                }
-            }
-        }
-        let outcome = Outcome::Refused(Refusal::StoredContent);
-        return Answered {
-            run: held,
-            outcome,
+    match read_run(bytes) {
+        Ok(run) => Answered {
+            run,
+            outcome: gauss_jackson::open_question(run),
             stored: 0,
-        };
-    }
-    let outcome = Outcome::Refused(Refusal::StoredShape);
-    Answered {
-        run: held,
-        outcome,
-        stored: 0,
+        },
+        Err(refusal) => Answered {
+            run: held,
+            outcome: Outcome::Refused(refusal),
+            stored: 0,
+        },
     }
 }
