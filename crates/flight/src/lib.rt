@@ -109,22 +109,13 @@ pub fn fly_on(flight: Flight, out: &mut [f64]) -> Flight
                 ..parts::together(f, parts)
             };
         };
-        match fastpath::look_at(
-            parts.mark,
-            f.run.body.plan,
-            parts.track,
-            parts.trial,
-            f.run.body.startup_iters,
-            parts.question.number,
-            a,
-            from,
-            out.len(),
-        ) {
+        let body = f.run.body;
+        match parts::look(parts, body.plan, body.startup_iters, a, from, out.len()) {
             Look::Again { mark, state } => {
-                parts = parts::try_again(parts, mark, state, f.run.body.plan);
+                parts = parts::try_again(parts, mark, state, body.plan);
             },
             Look::On { mark, state, steps } => {
-                parts = parts::step_on(parts, mark, state, steps, f.run.body.plan, a, from, out);
+                parts = parts::step_on(parts, mark, state, steps, body.plan, a, from, out);
             },
             Look::Away => {
                 f = answer_plainly(parts::together(f, parts), parts.question, a, from, out);

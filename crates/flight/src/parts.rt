@@ -1,11 +1,13 @@
 // SPDX-License-Identifier: MIT OR Apache-2.0
 // The parts of a flight that an answer of the fast path changes, kept beside the rest, which such an answer neither reads whole nor copies.
 ghost use Rattle.std.specs.Prelude.{◌≡◌, ◌<◌};
+ghost use Rattle.fastpath.specs.Looking.{looked_at};
 ghost use Rattle.fastpath.specs.Moving.{asked_again, made_step, kept_step};
 ghost use Rattle.flight.specs.Flight.{beyond};
 ghost use Rattle.flight.specs.Parts.{parts_of, together, tried_parts, stepped_parts};
 
 use crate::{Flight, Phase};
+use fastpath::Look;
 use gauss_jackson::Question;
 use plan::Plan;
 use run::{Body, Mark, Run, Track, Trial};
@@ -62,6 +64,23 @@ pub fn together(flight: Flight, parts: Parts) -> Flight
         next: parts.next,
         phase: Phase::Asks(question),
     }
+}
+
+// What the answer `a` to the open question leads to, after so many startup passes.
+pub fn look(parts: Parts, plan: Plan, passes: u64, a: Triple, from: u64, room: usize) -> Look
+    ensures { result ≡ looked_at parts.mark plan parts.track parts.trial passes parts.question.number a from room }
+{
+    fastpath::look_at(
+        parts.mark,
+        plan,
+        parts.track,
+        parts.trial,
+        passes,
+        parts.question.number,
+        a,
+        from,
+        room,
+    )
 }
 
 // The open step is tried once more.

@@ -53,7 +53,7 @@ loop-preserved c =
     let some = one_less c.loop.counter c.loop-test.true in
     let ready = sym c.is_ready.ensures ∙ c.if-not-is_ready.false in
     let high = sym c.in-Some.ensures in
-    elim c.match-look_at.branch [
+    elim c.match-look.branch [
       | in-Again w ↦ (
         rw w.out-is c.loop.invariant.0,
         rw (w.out-is, w.f-is, w.parts-is, w.try_again-parts.ensures)
