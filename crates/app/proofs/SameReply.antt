@@ -1,36 +1,40 @@
 -- What the fast path stores and tells is what `answered` gives, its outcome in plain numbers.
 use mathlib.Core.Path.{◌≡◌, sym, ap}
 use Prim.Native.Nat.{ℕ}
-use mathlib.Core.Bool.{true}
 use mathlib.Core.List.{List}
 use lib.ListN.{length}
 use lib.Ieee.{Float}
 use Rattle.triple.specs.declared.Triple.{Triple}
+use Rattle.triple.specs.declared.State.{State}
+use Rattle.run.specs.declared.Mark.{Mark}
 use Rattle.run.specs.declared.Run.{Run}
 use Rattle.run.specs.Samples.{tens, numbers_of}
 use Rattle.gauss_jackson.specs.Answers.{Given, answered}
 use Rattle.fastpath.specs.declared.Look.{Look}
+use Rattle.fastpath.specs.declared.Look.TheVariants.{Again, On}
 use Rattle.fastpath.specs.Looking.{looked_at}
 use Rattle.fastpath.specs.Moving.{kept_step}
 use Rattle.fastpath.proofs.SameAnswer.{same_again, same_on}
 use Rattle.app.specs.Reply.{reply_of, answer_reply, tried_reply, stepped_reply, tried_run, stepped_run}
 
-module _ (run : Run) (number : ℕ) (a : Triple) (from : ℕ) (out : List Float) (l : Look)
-    (is : l ≡ looked_at run.mark run.body.plan run.body.track run.body.trial run.body.startup_iters number a from (length out)) where
-  pub again_reply : l.again ≡ true
-      → ((tried_reply l run.body.plan run.body.track run.body.trial).reply ≡ answer_reply (answered run number a (tens from out)).got)
-      × (tried_run run (tried_reply l run.body.plan run.body.track run.body.trial) ≡ (answered run number a (tens from out)).got.run)
+module _ (run : Run) (number : ℕ) (a : Triple) (from : ℕ) (out : List Float) where
+  abbrev look : Look
+  look = looked_at run.mark run.body.plan run.body.track run.body.trial run.body.startup_iters number a from (length out)
+
+  pub again_reply : (m : Mark) (y : State) → Again m y ≡ look
+      → ((tried_reply m y run.body.plan run.body.track run.body.trial).reply ≡ answer_reply (answered run number a (tens from out)).got)
+      × (tried_run run (tried_reply m y run.body.plan run.body.track run.body.trial) ≡ (answered run number a (tens from out)).got.run)
       × (out ≡ numbers_of (answered run number a (tens from out)).out)
   unfolding tried_reply reply_of numbers_of
-  again_reply e =
-      let h = same_again run number a from out l is e in
+  again_reply m y e =
+      let h = same_again run number a from out m y e in
       (sym (ap (λ (g : Given). answer_reply g.got) h), sym (ap (λ (g : Given). g.got.run) h), sym (ap (λ (g : Given). numbers_of g.out) h))
 
-  pub on_reply : l.on ≡ true
-      → ((stepped_reply l run.body.plan run.body.track run.body.a a).reply ≡ answer_reply (answered run number a (tens from out)).got)
-      × (stepped_run run (stepped_reply l run.body.plan run.body.track run.body.a a) ≡ (answered run number a (tens from out)).got.run)
-      × (kept_step l run.body.plan run.body.track run.body.a a from out ≡ numbers_of (answered run number a (tens from out)).out)
+  pub on_reply : (m : Mark) (y : State) (n : ℕ) → On m y n ≡ look
+      → ((stepped_reply m y n run.body.plan run.body.track run.body.a a).reply ≡ answer_reply (answered run number a (tens from out)).got)
+      × (stepped_run run (stepped_reply m y n run.body.plan run.body.track run.body.a a) ≡ (answered run number a (tens from out)).got.run)
+      × (kept_step y n run.body.plan run.body.track run.body.a a from out ≡ numbers_of (answered run number a (tens from out)).out)
   unfolding stepped_reply reply_of numbers_of
-  on_reply e =
-      let h = same_on run number a from out l is e in
+  on_reply m y n e =
+      let h = same_on run number a from out m y n e in
       (sym (ap (λ (g : Given). answer_reply g.got) h), sym (ap (λ (g : Given). g.got.run) h), sym (ap (λ (g : Given). numbers_of g.out) h))

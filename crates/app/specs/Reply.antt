@@ -11,6 +11,8 @@ use Rattle.gauss_jackson.specs.declared.Answered.{Answered}
 use Rattle.gauss_jackson.specs.declared.Outcome.{Outcome}
 use Rattle.gauss_jackson.specs.declared.Outcome.TheVariants.{Ask, Done, Refused}
 use Rattle.triple.specs.declared.Triple.{Triple}
+use Rattle.triple.specs.declared.State.{State}
+use Rattle.run.specs.declared.Mark.{Mark}
 use Rattle.run.specs.declared.Track.{Track}
 use Rattle.run.specs.declared.Trial.{Trial}
 use Rattle.run.specs.declared.Run.{Run}
@@ -18,7 +20,6 @@ use Rattle.profile.specs.declared.Cost.{Cost}
 use Rattle.profile.specs.declared.WholeTold.{WholeTold}
 use Rattle.profile.specs.declared.WholeStart.{WholeStart}
 use Rattle.profile.specs.Costs.{no_cost}
-use Rattle.fastpath.specs.declared.Look.{Look}
 use Rattle.fastpath.specs.Moving.{asked_again, made_step, with_trial, with_step}
 use Rattle.app.specs.declared.Reply.{Reply}
 use Rattle.app.specs.declared.TriedReply.{TriedReply}
@@ -67,13 +68,13 @@ whole_reply_of d = record { reply = reply_of d.outcome 0; cost = d.cost }
 abbrev pub whole_replied_of : WholeStart → WholeReplied
 whole_replied_of d = record { run = d.run; told = whole_reply_of d.told }
 
--- ---- by parts, where an answer goes the fast path
-unfoldable pub tried_reply : Look → Plan → Track → Trial → TriedReply
-tried_reply l p k t = let d = asked_again l p k t in record { mark = d.mark; trial = d.trial; reply = asks_for d.question 0 }
+-- ---- by parts, where an answer goes the fast path; the letters are those of fastpath's specs
+unfoldable pub tried_reply : Mark → State → Plan → Track → Trial → TriedReply
+tried_reply m y p k t = let d = asked_again m y p k t in record { mark = d.mark; trial = d.trial; reply = asks_for d.question 0 }
 
-unfoldable pub stepped_reply : Look → Plan → Track → (old : List Triple) → Triple → SteppedReply
-stepped_reply l p k old a =
-    let d = made_step l p k old a in
+unfoldable pub stepped_reply : Mark → State → (n : ℕ) → Plan → Track → (old : List Triple) → Triple → SteppedReply
+stepped_reply m y n p k old a =
+    let d = made_step m y n p k old a in
     record { mark = d.mark; a = d.a; track = d.track; trial = d.trial; reply = asks_for d.question d.stored }
 
 -- the run with what changed

@@ -7,16 +7,22 @@ ghost use Rattle.fastpath.specs.Moving.{kept_step};
 ghost use Rattle.app.specs.Reply.{answer_reply, tried_reply, stepped_reply, tried_run, stepped_run};
 
 use crate::{Reply, SteppedReply, TriedReply, replies};
-use fastpath::Look;
 use plan::Plan;
-use run::{Run, Track, Trial};
-use triple::Triple;
+use run::{Mark, Run, Track, Trial};
+use triple::{State, Triple};
 
 // `out` is handed through, so that on each way exactly one callee has it.
-fn tried_reply(look: Look, plan: Plan, track: Track, trial: Trial, out: &mut [f64]) -> TriedReply
-    ensures { (result ≡ tried_reply look plan track trial) × (out.new ≡ out.old) }
+fn tried_reply(
+    mark: Mark,
+    state: State,
+    plan: Plan,
+    track: Track,
+    trial: Trial,
+    out: &mut [f64],
+) -> TriedReply
+    ensures { (result ≡ tried_reply mark state plan track trial) × (out.new ≡ out.old) }
 {
-    let done = fastpath::ask_again(look, plan, track, trial);
+    let done = fastpath::ask_again(mark, state, plan, track, trial);
     let mark = done.mark;
     let next = done.trial;
     let reply = replies::asks_for(done.question, 0);
@@ -28,7 +34,9 @@ fn tried_reply(look: Look, plan: Plan, track: Track, trial: Trial, out: &mut [f6
 }
 
 fn stepped_reply(
-    look: Look,
+    mark: Mark,
+    state: State,
+    steps: u64,
     plan: Plan,
     track: Track,
     old: [Triple; 9],
@@ -36,9 +44,9 @@ fn stepped_reply(
     from: u64,
     out: &mut [f64],
 ) -> SteppedReply
-    ensures { (result ≡ stepped_reply look plan track old a) × (out.new ≡ kept_step look plan track old a from out.old) }
+    ensures { (result ≡ stepped_reply mark state steps plan track old a) × (out.new ≡ kept_step state steps plan track old a from out.old) }
 {
-    let done = fastpath::make_step(look, plan, track, old, a, from, out);
+    let done = fastpath::make_step(mark, state, steps, plan, track, old, a, from, out);
     let mark = done.mark;
     let window = done.a;
     let next = done.track;
@@ -54,25 +62,42 @@ fn stepped_reply(
 }
 
 // The open step is tried once more.
-pub fn try_again(run: &mut Run, look: Look, out: &mut [f64]) -> Reply
-    ensures { (result ≡ (tried_reply look run.old.body.plan run.old.body.track run.old.body.trial).reply)
-        × (run.new ≡ tried_run run.old (tried_reply look run.old.body.plan run.old.body.track run.old.body.trial))
+pub fn try_again(run: &mut Run, mark: Mark, state: State, out: &mut [f64]) -> Reply
+    ensures { (result ≡ (tried_reply mark state run.old.body.plan run.old.body.track run.old.body.trial).reply)
+        × (run.new ≡ tried_run run.old (tried_reply mark state run.old.body.plan run.old.body.track run.old.body.trial))
         × (out.new ≡ out.old) }
 {
-    let done = tried_reply(look, run.body.plan, run.body.track, run.body.trial, out);
+    let done = tried_reply(
+        mark,
+        state,
+        run.body.plan,
+        run.body.track,
+        run.body.trial,
+        out,
+    );
     run.mark = done.mark;
     run.body.trial = done.trial;
     done.reply
 }
 
 // The open step is made, and the next one is open.
-pub fn step_on(run: &mut Run, look: Look, a: Triple, from: u64, out: &mut [f64]) -> Reply
-    ensures { (result ≡ (stepped_reply look run.old.body.plan run.old.body.track run.old.body.a a).reply)
-        × (run.new ≡ stepped_run run.old (stepped_reply look run.old.body.plan run.old.body.track run.old.body.a a))
-        × (out.new ≡ kept_step look run.old.body.plan run.old.body.track run.old.body.a a from out.old) }
+pub fn step_on(
+    run: &mut Run,
+    mark: Mark,
+    state: State,
+    steps: u64,
+    a: Triple,
+    from: u64,
+    out: &mut [f64],
+) -> Reply
+    ensures { (result ≡ (stepped_reply mark state steps run.old.body.plan run.old.body.track run.old.body.a a).reply)
+        × (run.new ≡ stepped_run run.old (stepped_reply mark state steps run.old.body.plan run.old.body.track run.old.body.a a))
+        × (out.new ≡ kept_step state steps run.old.body.plan run.old.body.track run.old.body.a a from out.old) }
 {
     let done = stepped_reply(
-        look,
+        mark,
+        state,
+        steps,
         run.body.plan,
         run.body.track,
         run.body.a,

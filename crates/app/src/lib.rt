@@ -14,6 +14,7 @@ ghost use Rattle.profile.specs.Costs.{forecast_of};
 ghost use Rattle.profile.specs.Start.{started_whole};
 ghost use Rattle.app.specs.Reply.{abi_number, reply_of, answer_reply, cost_reply_of, whole_reply_of};
 
+use fastpath::Look;
 use plan::Settings;
 use profile::Cost;
 use run::{Mark, Run, Track, Trial};
@@ -164,7 +165,7 @@ pub extern "C" fn gj_answer(
         × (run.new ≡ (answered run.old number a (tens from out.old)).got.run)
         × (out.new ≡ numbers_of (answered run.old number a (tens from out.old)).out) }
 {
-    let look = fastpath::look_at(
+    match fastpath::look_at(
         run.mark,
         run.body.plan,
         run.body.track,
@@ -174,14 +175,13 @@ pub extern "C" fn gj_answer(
         a,
         from,
         out.len(),
-    );
-    if look.again {
-        return lending::try_again(run, look, out);
+    ) {
+        Look::Again { mark, state } => lending::try_again(run, mark, state, out),
+        Look::On { mark, state, steps } => {
+            lending::step_on(run, mark, state, steps, a, from, out)
+        },
+        Look::Away => lending::answer_plainly(run, number, a, from, out),
     }
-    if look.on {
-        return lending::step_on(run, look, a, from, out);
-    }
-    lending::answer_plainly(run, number, a, from, out)
 }
 
 // The question that the run waits for, once more; refusal 7 where there is none.

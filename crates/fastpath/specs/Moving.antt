@@ -1,4 +1,5 @@
--- What changes in a run by such an answer, and the run with what changed. l is what was looked at; the other letters are those of `Looking`.
+-- What changes in a run by such an answer, and the run with what changed. By what was looked at m is where the run waits then, y where the step ends,
+-- n the steps made; the other letters are those of `Looking`.
 use Rattle.std.specs.Prelude.{ℕ, Bool, cond, List, Float}
 use Rattle.std.specs.Float.{binary64}
 use Rattle.std.specs.Float.Ieee.{add}
@@ -16,7 +17,6 @@ use Rattle.run.specs.Samples.{Room, step_sample, kept_sample}
 use Rattle.gauss_jackson.specs.declared.Question.{Question}
 use Rattle.gauss_jackson.specs.declared.Outcome.TheVariants.{Ask}
 use Rattle.gauss_jackson.specs.Answers.{Given}
-use Rattle.fastpath.specs.declared.Look.{Look}
 use Rattle.fastpath.specs.declared.Tried.{Tried}
 use Rattle.fastpath.specs.declared.Stepped.{Stepped}
 
@@ -24,40 +24,40 @@ unfoldable pub asked_at : Mark → (t : Float) → State → Question
 asked_at m t x = record { number = m.count.number; t = t; r = x.r; v = x.v }
 
 -- the open step once more
-unfoldable pub asked_again : Look → Plan → Track → Trial → Tried
-asked_again l p k t =
+unfoldable pub asked_again : Mark → State → Plan → Track → Trial → Tried
+asked_again m y p k t =
     record {
-      mark = l.mark;
-      trial = record { state = l.state; fixed = t.fixed };
-      question = asked_at l.mark (add binary64 k.t p.h) l.state;
+      mark = m;
+      trial = record { state = y; fixed = t.fixed };
+      question = asked_at m (add binary64 k.t p.h) y;
     }
 
 -- the newest point, one step on
-unfoldable pub track_by : Look → Plan → Track → Triple → Track
-track_by l p k a = record { t = add binary64 k.t p.h; steps = l.steps; state = l.state; sums = on_sums k.sums a }
+unfoldable pub track_by : State → (n : ℕ) → Plan → Track → Triple → Track
+track_by y n p k a = record { t = add binary64 k.t p.h; steps = n; state = y; sums = on_sums k.sums a }
 
 -- how many samples a step stores
 unfoldable pub stored_by : (wanted : Bool) → ℕ
 stored_by wanted = cond wanted 1 0
 
 -- the step is made, and the next one is open at its prediction
-unfoldable pub made_step : Look → Plan → Track → (old : List Triple) → Triple → Stepped
-made_step l p k old a =
-    let next = track_by l p k a in
-    let y = predicted_state p.h next.sums (slid old a) in
+unfoldable pub made_step : Mark → State → (n : ℕ) → Plan → Track → (old : List Triple) → Triple → Stepped
+made_step m y n p k old a =
+    let next = track_by y n p k a in
+    let z = predicted_state p.h next.sums (slid old a) in
     record {
-      mark = l.mark;
+      mark = m;
       a = slid old a;
       track = next;
-      trial = record { state = y; fixed = fixed_of (slid old a) };
-      question = asked_at l.mark (add binary64 next.t p.h) y;
+      trial = record { state = z; fixed = fixed_of (slid old a) };
+      question = asked_at m (add binary64 next.t p.h) z;
       stored = stored_by (wants_samples p.settings);
     }
 
 -- the room with the sample of the step that is made
-unfoldable pub kept_step : Look → Plan → Track → (old : List Triple) → Triple → (from : ℕ) → List Float → List Float
-kept_step l p k old a from numbers =
-    let next = track_by l p k a in kept_sample (wants_samples p.settings) from next.steps (step_sample next (slid old a)) numbers
+unfoldable pub kept_step : State → (n : ℕ) → Plan → Track → (old : List Triple) → Triple → (from : ℕ) → List Float → List Float
+kept_step y n p k old a from numbers =
+    let next = track_by y n p k a in kept_sample (wants_samples p.settings) from next.steps (step_sample next (slid old a)) numbers
 
 -- ---- the run with what changed
 abbrev pub with_trial : Run → Mark → Trial → Run

@@ -2,7 +2,7 @@
 // What an answer at a step's end leads to: where the step ends by it, whether it is made there, and whether a further one follows.
 ghost use Rattle.std.specs.Prelude.{◌≡◌, ◌<◌};
 ghost use Rattle.run.specs.Limits.{ample};
-ghost use Rattle.fastpath.specs.Looking.{reached, is_made, is_followed, looked_away, looked_again, looked_on};
+ghost use Rattle.fastpath.specs.Looking.{ended, is_followed, looked_again, looked_on};
 
 use crate::Look;
 use plan::{Plan, limits};
@@ -13,26 +13,25 @@ use triple::{State, Triple};
 // The number of a step's end among the waiting points.
 const AT_STEP: u8 = 6;
 
-// Where the open step ends by the newest answer, and whether it is made there.
+// Where the open step ends by the newest answer: it is made there, or stays open.
 #[derive(Clone, Copy)]
-pub struct Reached {
-    pub made: bool,
-    pub state: State,
+pub enum Reached {
+    Made(State),
+    Open(State),
 }
 
 pub fn reach(n: u8, plan: Plan, sums: Sums, trial: Trial, a: Triple) -> Reached
-    ensures { (result.made ≡ is_made n plan sums trial a) × (result.state ≡ reached n plan sums trial a) }
+    ensures { result ≡ ended n plan sums trial a }
 {
     let before = trial.state;
     if (n as u64) >= plan.settings.max_corrector_iters {
-        return Reached {
-            made: true,
-            state: before,
-        };
+        return Reached::Made(before);
     }
     let after = sums::corrected(plan.h, sums, trial.fixed, a);
-    let made = conditions::is_at_rest(plan.settings.corrector_tol, before, after);
-    Reached { made, state: after }
+    if conditions::is_at_rest(plan.settings.corrector_tol, before, after) {
+        return Reached::Made(after);
+    }
+    Reached::Open(after)
 }
 
 // Whether a further step follows at t, after n of them, and the sample that is due, if any, has its place among so many numbers.
@@ -52,24 +51,10 @@ fn is_followed(plan: Plan, t: f64, n: u64, from: u64, room: usize) -> bool
     !conditions::is_tail(plan, t)
 }
 
-// Neither: the answer goes the plain way.
-pub fn look_away(mark: Mark, track: Track, trial: Trial) -> Look
-    ensures { result ≡ looked_away mark track trial }
-{
-    let state = trial.state;
-    Look {
-        again: false,
-        on: false,
-        mark,
-        state,
-        steps: track.steps,
-    }
-}
-
 // The open step is tried once more, after n passes.
-pub fn look_again(n: u8, count: Count, track: Track, state: State) -> Look
+pub fn look_again(n: u8, count: Count, state: State) -> Look
     requires { n < 255 }
-    ensures { result ≡ looked_again n count track state }
+    ensures { result ≡ looked_again n count state }
 {
     let mark = Mark {
         at: AT_STEP,
@@ -77,13 +62,7 @@ pub fn look_again(n: u8, count: Count, track: Track, state: State) -> Look
         stage: 0,
         count,
     };
-    Look {
-        again: true,
-        on: false,
-        mark,
-        state,
-        steps: track.steps,
-    }
+    Look::Again { mark, state }
 }
 
 // The open step is made, and the next one is open, if one follows.
@@ -92,18 +71,14 @@ pub fn look_on(plan: Plan, count: Count, track: Track, state: State, from: u64, 
     ensures { result ≡ looked_on plan count track state from room }
 {
     let steps = track.steps + 1;
-    let on = is_followed(plan, track.t + plan.h, steps, from, room);
+    if !is_followed(plan, track.t + plan.h, steps, from, room) {
+        return Look::Away;
+    }
     let mark = Mark {
         at: AT_STEP,
         index: 0,
         stage: 0,
         count,
     };
-    Look {
-        again: false,
-        on,
-        mark,
-        state,
-        steps,
-    }
+    Look::On { mark, state, steps }
 }

@@ -15,15 +15,22 @@ use triple::{State, Triple, nine};
 
 mod judging;
 
-// What an answer leads to: the open step is tried once more, or it is made and the next one is open, or neither; and then where the run
-// waits, where the step ends by this answer, and the steps made.
+use judging::Reached;
+
+// What an answer leads to: the open step is tried once more, or it is made and the next one is open, or neither, and the answer goes the
+// plain way. `mark` is where the run waits then, `state` where the step ends by this answer, `steps` the steps made.
 #[derive(Clone, Copy)]
-pub struct Look {
-    pub again: bool,
-    pub on: bool,
-    pub mark: Mark,
-    pub state: State,
-    pub steps: u64,
+pub enum Look {
+    Away,
+    Again {
+        mark: Mark,
+        state: State,
+    },
+    On {
+        mark: Mark,
+        state: State,
+        steps: u64,
+    },
 }
 
 // What changes in a run where the open step is tried once more, and its question.
@@ -60,18 +67,17 @@ pub fn look_at(
     ensures { result ≡ looked_at mark plan track trial passes number a from room }
 {
     if !sound::is_open_step(mark, plan, passes, track.steps) {
-        return judging::look_away(mark, track, trial);
+        return Look::Away;
     }
     if mark.count.number != number {
-        return judging::look_away(mark, track, trial);
+        return Look::Away;
     }
     let n = mark.index;
-    let end = judging::reach(n, plan, track.sums, trial, a);
     let count = mark.count.next();
-    if end.made {
-        return judging::look_on(plan, count, track, end.state, from, room);
+    match judging::reach(n, plan, track.sums, trial, a) {
+        Reached::Made(state) => judging::look_on(plan, count, track, state, from, room),
+        Reached::Open(state) => judging::look_again(n, count, state),
     }
-    judging::look_again(n, count, track, end.state)
 }
 
 fn ask_at(mark: Mark, t: f64, x: State) -> Question
@@ -88,11 +94,9 @@ fn ask_at(mark: Mark, t: f64, x: State) -> Question
 }
 
 // The open step once more: where the run waits, what it tries, and the question.
-pub fn ask_again(look: Look, plan: Plan, track: Track, trial: Trial) -> Tried
-    ensures { result ≡ asked_again look plan track trial }
+pub fn ask_again(mark: Mark, state: State, plan: Plan, track: Track, trial: Trial) -> Tried
+    ensures { result ≡ asked_again mark state plan track trial }
 {
-    let mark = look.mark;
-    let state = look.state;
     let fixed = trial.fixed;
     let question = ask_at(mark, track.t + plan.h, state);
     let next = Trial { state, fixed };
@@ -104,14 +108,13 @@ pub fn ask_again(look: Look, plan: Plan, track: Track, trial: Trial) -> Tried
 }
 
 // The newest point, one step on.
-fn track_by(look: Look, plan: Plan, track: Track, a: Triple) -> Track
-    ensures { result ≡ track_by look plan track a }
+fn track_by(state: State, steps: u64, plan: Plan, track: Track, a: Triple) -> Track
+    ensures { result ≡ track_by state steps plan track a }
 {
-    let state = look.state;
     let sums = track.sums.on(a);
     Track {
         t: track.t + plan.h,
-        steps: look.steps,
+        steps,
         state,
         sums,
     }
@@ -127,7 +130,9 @@ fn stored_by(wanted: bool) -> u64
 // The step is made, with the acceleration `a`, and the next one is open at its prediction. Its sample is stored last: a store into the
 // buffer pins every copy that is made before it.
 pub fn make_step(
-    look: Look,
+    mark: Mark,
+    reached: State,
+    steps: u64,
     plan: Plan,
     track: Track,
     old: [Triple; 9],
@@ -135,10 +140,10 @@ pub fn make_step(
     from: u64,
     out: &mut [f64],
 ) -> Stepped
-    ensures { (result ≡ made_step look plan track old a) × (out.new ≡ kept_step look plan track old a from out.old) }
+    ensures { (result ≡ made_step mark reached steps plan track old a)
+        × (out.new ≡ kept_step reached steps plan track old a from out.old) }
 {
-    let mark = look.mark;
-    let next = track_by(look, plan, track, a);
+    let next = track_by(reached, steps, plan, track, a);
     let window = nine::slid(old, a);
     let state = sums::predicted(plan.h, next.sums, window);
     let fixed = sums::fixed_of(window);

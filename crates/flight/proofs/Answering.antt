@@ -16,7 +16,7 @@ use Rattle.plan.specs.declared.Plan.{Plan}
 use Rattle.run.specs.Limits.{numbering}
 use Rattle.run.specs.Samples.{tens, numbers_of, is_placed, has_room, put_all}
 use Rattle.run.proofs.Placing.{placed_is, same_room, room_within}
-use Rattle.gauss_jackson.specs.Answers.{Given, ending, answered}
+use Rattle.gauss_jackson.specs.Answers.{Given, answered}
 use Rattle.rules.specs.Rules.{asks}
 use Rattle.rules.specs.Asked.{due}
 use Rattle.rules.specs.Walk.{refused, Line, open_at, Stop, settle, called}
@@ -27,19 +27,19 @@ use Rattle.counting.specs.Rooms.{Holds}
 use Rattle.counting.proofs.Ahead.{reached, samples_ahead, count_ahead, from_there, stop_at, due_holds, settles}
 use Rattle.point_mass.specs.Force.{distance, is_too_low, pull, pull_at}
 use Rattle.flight.specs.declared.Flight.{Flight}
-use Rattle.flight.specs.Flight.{landed, flight_by, flight_of, flown_after, answered_by, answered_once}
+use Rattle.flight.specs.Flight.{flight_of, flown_after, answered_by, answered_once}
 use Rattle.flight.specs.Story.{Story, numbered, nothing_more, story}
 use Rattle.flight.proofs.Once.{once_low, once_high}
 use Rattle.flight.proofs.Settling.{Asked, Ended, settled, tale_ahead}
-use Rattle.flight.proofs.Tales.{shows, Open, Goes, since_less, arrives}
+use Rattle.flight.proofs.Tales.{Open, Goes, since_less, arrives}
 
 module _ (p : Plan) (c : Claims) (m from : ℕ) (f : Flight) (numbers : List Float) (st : Story) (o : Open p c m f st)
     (place : is_placed from f.next 5 (length numbers) ≡ true) where
   abbrev a : Triple
-  a = pull f.question.r
+  a = pull o.asked.r
 
   abbrev given : Given
-  given = answered f.run f.question.number a (tens from numbers)
+  given = answered f.run o.asked.number a (tens from numbers)
 
   abbrev stop : Stop
   stop = settle (o.next a) ((o.number + 1) % numbering) (o.evals + 1) (tens from numbers)
@@ -47,7 +47,7 @@ module _ (p : Plan) (c : Claims) (m from : ℕ) (f : Flight) (numbers : List Flo
   enough : sample_width * (f.next - from + 5) ≤ length numbers
   enough = (placed_is from f.next 5 (length numbers) place).1
 
-  tale_by : (d : Bool) → is_too_low (distance f.question.r) ≡ d → st ≡ cond d (nothing_more 15) (story (o.next a))
+  tale_by : (d : Bool) → is_too_low (distance o.asked.r) ≡ d → st ≡ cond d (nothing_more 15) (story (o.next a))
   unfolding story
   tale_by d h =
       o.tale
@@ -57,10 +57,10 @@ module _ (p : Plan) (c : Claims) (m from : ℕ) (f : Flight) (numbers : List Flo
   called_is : seen given ≡ stop
   unfolding called
   called_is =
-      call_is f.run (record { number = f.question.number; a = a; out = tens from numbers })
-      ∙ ap (λ (l : Line). called l (record { number = f.question.number; a = a; out = tens from numbers })) o.line
+      call_is f.run (record { number = o.asked.number; a = a; out = tens from numbers })
+      ∙ ap (λ (l : Line). called l (record { number = o.asked.number; a = a; out = tens from numbers })) o.line
       ∙ ap (λ (b : Bool). cond b stop (record { said = refused 8; stored = 0; out = tens from numbers; line = open_at o.number o.evals o.place o.next }))
-      (eq-eqb o.number f.question.number (sym o.number_is))
+      (eq-eqb o.number o.asked.number (sym o.number_is))
 
   abbrev ss : List Sample
   ss = samples_ahead (o.next a)
@@ -84,13 +84,13 @@ module _ (p : Plan) (c : Claims) (m from : ℕ) (f : Flight) (numbers : List Flo
 
   next_is : (flight_of (f.next + given.got.stored) given.got).next ≡ f.next + length ss
   unfolding flight_of
-  next_is = (shows given.got.run (f.next + given.got.stored) given.got.outcome).next_is ∙ ap (λ (n : ℕ). f.next + n) stored_is
+  next_is = ap (λ (n : ℕ). f.next + n) stored_is
 
-  low_goes : is_too_low (distance f.question.r) ≡ true → Goes p c (m + 1) from f numbers st (answered_once from f numbers)
-  unfolding flight_of flight_by ending landed put_all numbered pull_at
+  low_goes : is_too_low (distance o.asked.r) ≡ true → Goes p c (m + 1) from f numbers st (answered_once from f numbers)
+  unfolding put_all numbered pull_at
   low_goes h =
       let e = enough in
-      subst (Goes p c (m + 1) from f numbers st) (sym (once_low from f numbers h))
+      subst (Goes p c (m + 1) from f numbers st) (sym (once_low from f numbers o.asked o.phase (rw h)))
       (record {
         samples = [];
         count = add-zero f.next;
@@ -101,8 +101,8 @@ module _ (p : Plan) (c : Claims) (m from : ℕ) (f : Flight) (numbers : List Flo
         tells = inr (record { asks_none = refl; tale = refl });
       })
 
-  high_goes : is_too_low (distance f.question.r) ≡ false → Goes p c (m + 1) from f numbers st (answered_once from f numbers)
-  unfolding answered_by flown_after seen pull_at
+  high_goes : is_too_low (distance o.asked.r) ≡ false → Goes p c (m + 1) from f numbers st (answered_once from f numbers)
+  unfolding answered_by flown_after flight_of seen pull_at
   high_goes h =
       let e = enough in
       let b = (placed_is from f.next 5 (length numbers) place).0 in
@@ -112,7 +112,7 @@ module _ (p : Plan) (c : Claims) (m from : ℕ) (f : Flight) (numbers : List Flo
       let w = stored_is in
       let z = o.near in
       let y = o.since in
-      subst (Goes p c (m + 1) from f numbers st) (sym (once_high from f numbers h))
+      subst (Goes p c (m + 1) from f numbers st) (sym (once_high from f numbers o.asked o.phase a (rw h)))
       (record {
         samples = ss;
         count = sym next_is;
@@ -128,8 +128,8 @@ module _ (p : Plan) (c : Claims) (m from : ℕ) (f : Flight) (numbers : List Flo
       })
 
   pub once_goes : Goes p c (m + 1) from f numbers st (answered_once from f numbers)
-  once_goes = go (is_too_low (distance f.question.r)) refl
+  once_goes = go (is_too_low (distance o.asked.r)) refl
     where
-      go : (d : Bool) → is_too_low (distance f.question.r) ≡ d → Goes p c (m + 1) from f numbers st (answered_once from f numbers)
+      go : (d : Bool) → is_too_low (distance o.asked.r) ≡ d → Goes p c (m + 1) from f numbers st (answered_once from f numbers)
       go true h = low_goes h
       go false h = high_goes h

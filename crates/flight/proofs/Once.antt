@@ -1,20 +1,22 @@
 -- One question answered: too low, and not.
 use mathlib.Core.Path.{◌≡◌}
 use Prim.Native.Nat.{ℕ}
-use mathlib.Core.Bool.{true, false}
 use mathlib.Core.List.{List}
 use lib.Ieee.{Float}
-use Rattle.refusals.specs.Numbers.{number_of}
+use Rattle.std.specs.Prelude.{Some, None, Err}
+use Rattle.triple.specs.declared.Triple.{Triple}
 use Rattle.refusals.specs.declared.Refusal.TheVariants.{TooLow}
+use Rattle.gauss_jackson.specs.declared.Question.{Question}
 use Rattle.point_mass.specs.Force.{pull_at}
+use Rattle.flight.specs.declared.Phase.TheVariants.{Asks, Over}
 use Rattle.flight.specs.declared.Flight.{Flight}
-use Rattle.flight.specs.Flight.{landed, answered_by, answered_once}
+use Rattle.flight.specs.Flight.{answered_by, pulled_by, answered_in, answered_once}
 
-module _ (from : ℕ) (f : Flight) (numbers : List Float) where
-  pub once_low : (pull_at f.question.r).low ≡ true → answered_once from f numbers ≡ record { flight = landed f.run f.next (number_of TooLow); out = numbers }
-  unfolding answered_once
-  once_low h = rw h
+module _ (from : ℕ) (f : Flight) (numbers : List Float) (q : Question) (e : f.phase ≡ Asks q) where
+  pub once_low : pull_at q.r ≡ None → answered_once from f numbers ≡ record { flight = record { run = f.run; next = f.next; phase = Over (Err TooLow) }; out = numbers }
+  unfolding answered_once answered_in pulled_by
+  once_low h = rw (e, h)
 
-  pub once_high : (pull_at f.question.r).low ≡ false → answered_once from f numbers ≡ answered_by (pull_at f.question.r).a from f numbers
-  unfolding answered_once
-  once_high h = rw h
+  pub once_high : (a : Triple) → pull_at q.r ≡ Some a → answered_once from f numbers ≡ answered_by q a from f numbers
+  unfolding answered_once answered_in pulled_by
+  once_high a h = rw (e, h)

@@ -6,7 +6,6 @@ use mathlib.Core.Bool.{false}
 use lib.ListN.{length}
 use Rattle.triple.specs.declared.Triple.{Triple}
 use Rattle.triple.specs.declared.Point.{Point}
-use Rattle.triple.specs.Arithmetic.{zeros}
 use Rattle.plan.specs.declared.Plan.{Plan}
 use Rattle.run.specs.Samples.{Room, put_all}
 use Rattle.rules.specs.Rules.{Course, asks, stores, ends, exceeds}
@@ -19,21 +18,11 @@ use Rattle.counting.proofs.Ahead.{Reached, a_question, the_end, the_limit, reach
 use Rattle.flight.specs.Story.{Story, numbered, nothing_more, before, story}
 use Rattle.flight.proofs.Rows.{told_more}
 
--- ---- what is told, as a flight keeps it
-abbrev pub number_in : Said → ℕ
-number_in (question n q) = n
-number_in (finished t y e steps startups) = 0
-number_in (refused n) = 0
-
-abbrev pub place_in : Said → Triple
-place_in (question n q) = q.r
-place_in (finished t y e steps startups) = zeros
-place_in (refused n) = zeros
-
-abbrev pub ending_in : Said → ℕ
-ending_in (question n q) = 0
-ending_in (finished t y e steps startups) = 0
-ending_in (refused n) = n
+-- ---- how what is told ends
+abbrev pub ending_told : Said → ℕ
+ending_told (question n q) = 0
+ending_told (finished t y e steps startups) = 0
+ending_told (refused n) = n
 
 module _ (p : Plan) (c : Claims) where
   -- question i is open after e answers and n samples, and this is the story from there
@@ -48,7 +37,7 @@ module _ (p : Plan) (c : Claims) where
 
   pub record Ended (s : Stop) (left : Story) : Type 0 where
     pub said : is_asked s.said ≡ false
-    pub tale : left ≡ nothing_more (ending_in s.said)
+    pub tale : left ≡ nothing_more (ending_told s.said)
 
   -- a call goes on to what is ahead
   pub settled : (t : Course) (i e n : ℕ) (out : Room) → Always c e n t → AsListed p t → Holds out t

@@ -3,12 +3,14 @@
 // with one small room that begins at the next sample. By value, and total: what a flight tells is `specs/Story.antt`.
 #![tactic(auto)]
 
-ghost use Rattle.std.specs.Prelude.{◌≡◌, ◌&&◌, ◌<◌, ltb};
-ghost use Rattle.flight.specs.Flight.{beyond, landed, flight_of, taken_off, answered_by, is_ready, flown_on};
+ghost use Rattle.std.specs.Prelude.{◌≡◌, true, ◌<◌};
+ghost use Rattle.flight.specs.Flight.{beyond, phase_of, flight_of, taken_off, answered_by, is_ready, flown_on};
 
+use fastpath::Look;
 use gauss_jackson::{Answered, Outcome, Question};
 use plan::Settings;
 use point_mass::force;
+use refusals::Refusal;
 use run::{Run, samples};
 use triple::Triple;
 
@@ -20,41 +22,28 @@ const PIECE: u64 = 4096;
 // Above the number of any sample of a run.
 const BEYOND: u64 = 10_000_000_000_000;
 
-// The number of 02 for a question too low.
-const TOO_LOW: u64 = 15;
+// A question is open, or the flight is over, well or by a refusal.
+#[derive(Clone, Copy)]
+pub enum Phase {
+    Asks(Question),
+    Over(Result<(), Refusal>),
+}
 
-// A run on its way: whether a question is open, and which; the number of the next sample; and, where none is open, how it ended: 0, or the
-// refusal's number.
+// A run on its way, and the number of the next sample.
 #[derive(Clone, Copy)]
 pub struct Flight {
     pub run: Run,
-    pub asks: bool,
-    pub question: Question,
     pub next: u64,
-    pub ending: u64,
+    pub phase: Phase,
 }
 
-// A flight that is over.
-fn land(run: Run, next: u64, ending: u64) -> Flight
-    ensures { result ≡ landed run next ending }
+fn phase_of(outcome: Outcome) -> Phase
+    ensures { result ≡ phase_of outcome }
 {
-    let zeros = Triple {
-        x: 0.0,
-        y: 0.0,
-        z: 0.0,
-    };
-    let question = Question {
-        number: 0,
-        t: 0.0,
-        r: zeros,
-        v: zeros,
-    };
-    Flight {
-        run,
-        asks: false,
-        question,
-        next,
-        ending,
+    match outcome {
+        Outcome::Ask(question) => Phase::Asks(question),
+        Outcome::Done(_solution) => Phase::Over(Ok(())),
+        Outcome::Refused(refusal) => Phase::Over(Err(refusal)),
     }
 }
 
@@ -63,18 +52,8 @@ fn flight_of(next: u64, x: Answered) -> Flight
     ensures { result ≡ flight_of next x }
 {
     let run = x.run;
-    let outcome = x.outcome;
-    match outcome {
-        Outcome::Ask(question) => Flight {
-            run,
-            asks: true,
-            question,
-            next,
-            ending: 0,
-        },
-        Outcome::Done(_solution) => land(run, next, 0),
-        Outcome::Refused(refusal) => land(run, next, u64::from(u8::from(refusal))),
-    }
+    let phase = phase_of(x.outcome);
+    Flight { run, next, phase }
 }
 
 // A start: a flight with its first question, or one that is over by a refusal.
@@ -84,30 +63,27 @@ pub fn take_off(settings: Settings, t0: f64, tf: f64, r0: Triple, v0: Triple) ->
     flight_of(0, gauss_jackson::start(settings, t0, tf, r0, v0))
 }
 
-// Whether a further question is answered in this piece: the room that begins at `from` must have place for the next five samples.
-fn is_ready(left: u64, asks: bool, from: u64, next: u64, room: usize) -> bool
-    ensures { result ≡ ltb 0 left && is_ready asks from next room }
+// Whether a question that is open is answered in this piece: the room that begins at `from` must have place for the next five samples.
+fn is_ready(from: u64, next: u64, room: usize) -> bool
+    ensures { result ≡ is_ready true from next room }
 {
-    if left == 0 {
-        return false;
-    }
-    if !asks {
-        return false;
-    }
-    if !samples::has_place(true, from, next, 5, room) {
-        return false;
-    }
-    next < BEYOND
+    samples::has_place(true, from, next, 5, room) && next < BEYOND
 }
 
 // One question answered the plain way.
-fn answer_plainly(flight: Flight, a: Triple, from: u64, out: &mut [f64]) -> Flight
+fn answer_plainly(
+    flight: Flight,
+    question: Question,
+    a: Triple,
+    from: u64,
+    out: &mut [f64],
+) -> Flight
     requires { flight.next < beyond }
-    ensures { (result ≡ (answered_by a from flight out.old).flight) × (out.new ≡ (answered_by a from flight out.old).out) }
+    ensures { (result ≡ (answered_by question a from flight out.old).flight) × (out.new ≡ (answered_by question a from flight out.old).out) }
 {
     let next = flight.next;
     let run = flight.run;
-    let done = gauss_jackson::answer(run, flight.question.number, a, from, out);
+    let done = gauss_jackson::answer(run, question.number, a, from, out);
     flight_of(next + done.stored, done)
 }
 
@@ -117,36 +93,38 @@ pub fn fly_on(flight: Flight, out: &mut [f64]) -> Flight
     ensures { (result ≡ (flown_on flight out.old).flight) × (out.new ≡ (flown_on flight out.old).out) }
 {
     let from = flight.next;
+    let Phase::Asks(first) = flight.phase else {
+        return flight;
+    };
     let mut f = flight;
-    let mut parts = parts::parts_of(f);
-    let mut left = PIECE;
-    while is_ready(left, f.asks, from, parts.next, out.len()) {
-        left -= 1;
-        let pulled = force::pull_at(parts.question.r);
-        if pulled.low {
-            return land(parts::together(f, parts).run, parts.next, TOO_LOW);
+    let mut parts = parts::parts_of(f, first);
+    for _ in 0..PIECE {
+        if !is_ready(from, parts.next, out.len()) {
+            break;
         }
-        let look = fastpath::look_at(
-            parts.mark,
-            f.run.body.plan,
-            parts.track,
-            parts.trial,
-            f.run.body.startup_iters,
-            parts.question.number,
-            pulled.a,
-            from,
-            out.len(),
-        );
-        if look.again {
-            parts = parts::try_again(parts, look, f.run.body.plan);
-            continue;
+        let Some(a) = force::pull_at(parts.question.r) else {
+            let phase = Phase::Over(Err(Refusal::TooLow));
+            return Flight {
+                phase,
+                ..parts::together(f, parts)
+            };
+        };
+        let body = f.run.body;
+        match parts::look(parts, body.plan, body.startup_iters, a, from, out.len()) {
+            Look::Again { mark, state } => {
+                parts = parts::try_again(parts, mark, state, body.plan);
+            },
+            Look::On { mark, state, steps } => {
+                parts = parts::step_on(parts, mark, state, steps, body.plan, a, from, out);
+            },
+            Look::Away => {
+                f = answer_plainly(parts::together(f, parts), parts.question, a, from, out);
+                let Phase::Asks(question) = f.phase else {
+                    return f;
+                };
+                parts = parts::parts_of(f, question);
+            },
         }
-        if look.on {
-            parts = parts::step_on(parts, look, f.run.body.plan, pulled.a, from, out);
-            continue;
-        }
-        f = answer_plainly(parts::together(f, parts), pulled.a, from, out);
-        parts = parts::parts_of(f);
     }
     parts::together(f, parts)
 }

@@ -1,16 +1,17 @@
 // SPDX-License-Identifier: MIT OR Apache-2.0
 // The parts of a flight that an answer of the fast path changes, kept beside the rest, which such an answer neither reads whole nor copies.
 ghost use Rattle.std.specs.Prelude.{◌≡◌, ◌<◌};
+ghost use Rattle.fastpath.specs.Looking.{looked_at};
 ghost use Rattle.fastpath.specs.Moving.{asked_again, made_step, kept_step};
 ghost use Rattle.flight.specs.Flight.{beyond};
 ghost use Rattle.flight.specs.Parts.{parts_of, together, tried_parts, stepped_parts};
 
-use crate::Flight;
+use crate::{Flight, Phase};
 use fastpath::Look;
 use gauss_jackson::Question;
 use plan::Plan;
 use run::{Body, Mark, Run, Track, Trial};
-use triple::Triple;
+use triple::{State, Triple};
 
 #[derive(Clone, Copy)]
 pub struct Parts {
@@ -20,18 +21,17 @@ pub struct Parts {
     pub trial: Trial,
     pub question: Question,
     pub next: u64,
-    pub ending: u64,
 }
 
-pub fn parts_of(flight: Flight) -> Parts
-    ensures { result ≡ parts_of flight }
+// Of a flight and its open question.
+pub fn parts_of(flight: Flight, question: Question) -> Parts
+    ensures { result ≡ parts_of flight question }
 {
     let body = flight.run.body;
     let mark = flight.run.mark;
     let a = body.a;
     let track = body.track;
     let trial = body.trial;
-    let question = flight.question;
     Parts {
         mark,
         a,
@@ -39,7 +39,6 @@ pub fn parts_of(flight: Flight) -> Parts
         trial,
         question,
         next: flight.next,
-        ending: flight.ending,
     }
 }
 
@@ -62,18 +61,33 @@ pub fn together(flight: Flight, parts: Parts) -> Flight
     let run = Run { mark, body };
     Flight {
         run,
-        asks: flight.asks,
-        question,
         next: parts.next,
-        ending: parts.ending,
+        phase: Phase::Asks(question),
     }
 }
 
-// The open step is tried once more.
-pub fn try_again(parts: Parts, look: Look, plan: Plan) -> Parts
-    ensures { result ≡ tried_parts parts (asked_again look plan parts.track parts.trial) }
+// What the answer `a` to the open question leads to, after so many startup passes.
+pub fn look(parts: Parts, plan: Plan, passes: u64, a: Triple, from: u64, room: usize) -> Look
+    ensures { result ≡ looked_at parts.mark plan parts.track parts.trial passes parts.question.number a from room }
 {
-    let done = fastpath::ask_again(look, plan, parts.track, parts.trial);
+    fastpath::look_at(
+        parts.mark,
+        plan,
+        parts.track,
+        parts.trial,
+        passes,
+        parts.question.number,
+        a,
+        from,
+        room,
+    )
+}
+
+// The open step is tried once more.
+pub fn try_again(parts: Parts, mark: Mark, state: State, plan: Plan) -> Parts
+    ensures { result ≡ tried_parts parts (asked_again mark state plan parts.track parts.trial) }
+{
+    let done = fastpath::ask_again(mark, state, plan, parts.track, parts.trial);
     let mark = done.mark;
     let trial = done.trial;
     let question = done.question;
@@ -81,20 +95,28 @@ pub fn try_again(parts: Parts, look: Look, plan: Plan) -> Parts
         mark,
         trial,
         question,
-        ending: 0,
         ..parts
     }
 }
 
 // The open step is made, and the next one is open.
-pub fn step_on(parts: Parts, look: Look, plan: Plan, x: Triple, from: u64, out: &mut [f64]) -> Parts
+pub fn step_on(
+    parts: Parts,
+    mark: Mark,
+    state: State,
+    steps: u64,
+    plan: Plan,
+    x: Triple,
+    from: u64,
+    out: &mut [f64],
+) -> Parts
     requires { parts.next < beyond }
-    ensures { (result ≡ stepped_parts parts (made_step look plan parts.track parts.a x))
-        × (out.new ≡ kept_step look plan parts.track parts.a x from out.old) }
+    ensures { (result ≡ stepped_parts parts (made_step mark state steps plan parts.track parts.a x))
+        × (out.new ≡ kept_step state steps plan parts.track parts.a x from out.old) }
 {
     let next = parts.next;
     let old = parts.a;
-    let done = fastpath::make_step(look, plan, parts.track, old, x, from, out);
+    let done = fastpath::make_step(mark, state, steps, plan, parts.track, old, x, from, out);
     let mark = done.mark;
     let a = done.a;
     let track = done.track;
@@ -107,6 +129,5 @@ pub fn step_on(parts: Parts, look: Look, plan: Plan, x: Triple, from: u64, out: 
         trial,
         question,
         next: next + done.stored,
-        ending: 0,
     }
 }

@@ -1,6 +1,6 @@
 -- 02, W-207: "a force of (-mu·x)/((d·d)·d) per component, d the distance, W-204's root of (x·x + y·y) + z·z, mu 398600.4418 km³/s² (WGS 84)".
 -- Each operation is rounded once.
-use Rattle.std.specs.Prelude.{Bool, false, not, pos, Float}
+use Rattle.std.specs.Prelude.{Bool, false, not, cond, Option, Some, None, pos, Float}
 use Rattle.std.specs.Float.{fin, binary64}
 use Rattle.std.specs.Float.Ieee.{neg, add, mul, div, le}
 use Rattle.double.specs.Fraction.{Fraction}
@@ -9,7 +9,6 @@ use Rattle.double.specs.Nearest.{nearest_double}
 use Rattle.root.specs.Root.{root_of}
 use Rattle.triple.specs.declared.Triple.{Triple}
 use Rattle.triple.specs.Size.{square}
-use Rattle.point_mass.specs.declared.force.Pulled.{Pulled}
 
 -- 398600.4418
 abbrev pub mu_decimal : Fraction
@@ -38,5 +37,6 @@ lowest = fin false 1 (pos 0)
 unfoldable pub is_too_low : Float → Bool
 is_too_low d = not (le lowest d)
 
-unfoldable pub pull_at : Triple → Pulled
-pull_at r = record { low = is_too_low (distance r); a = pull r }
+-- where that is not too low
+unfoldable pub pull_at : Triple → Option Triple
+pull_at r = cond (is_too_low (distance r)) None (Some (pull r))

@@ -8,13 +8,6 @@ use triple::Triple;
 // WGS 84, km³/s².
 const MU: f64 = 398600.4418;
 
-// The pull at a position, and whether that is too low for an answer.
-#[derive(Clone, Copy)]
-pub struct Pulled {
-    pub low: bool,
-    pub a: Triple,
-}
-
 pub fn distance(r: Triple) -> f64
     ensures { result ≡ distance r }
 {
@@ -28,19 +21,18 @@ pub fn is_too_low(d: f64) -> bool
     !(d >= 1.0)
 }
 
-// The pull is worked out where that is too low as well, which saves a branch; no one reads it there.
-pub fn pull_at(r: Triple) -> Pulled
+// The pull at a position, or none where that is too low for an answer.
+pub fn pull_at(r: Triple) -> Option<Triple>
     ensures { result ≡ pull_at r }
 {
     let d = distance(r);
+    if is_too_low(d) {
+        return None;
+    }
     let cube = d * d * d;
-    let a = Triple {
+    Some(Triple {
         x: -MU * r.x / cube,
         y: -MU * r.y / cube,
         z: -MU * r.z / cube,
-    };
-    Pulled {
-        low: is_too_low(d),
-        a,
-    }
+    })
 }

@@ -1,82 +1,83 @@
 -- `fly_on` is `flown_on`: what is left to do, from the flight with its parts in their places, leads where the whole leads.
-use mathlib.Core.Path.{refl, sym, ap, ◌∙◌}
+use mathlib.Core.Path.{◌≡◌, refl, sym, ap, ◌∙◌}
+use Prim.Native.Nat.{ℕ, suc, ◌-◌, ◌+◌, ◌<◌}
 use native.Mathlib.Omega.{arith}
-use Rattle.flight.specs.Flight.{Flown, flown_on}
+use Rattle.flight.specs.Flight.{Flown, piece, flown_on}
 use Rattle.flight.specs.Parts.{together}
-use Rattle.flight.proofs.Pieces.{flown_ends, going_is}
+use Rattle.flight.proofs.Pieces.{flown_stops, flown_none, flown_over, ready_is}
 use Rattle.flight.proofs.Turns.{whole, turned_low, turned_plainly, turned_again, turned_on}
 use Rattle.flight.proofs.fly_on.Goals as goal
+use Rattle.flight.proofs.fly_on.Goals.{in-Again, in-On, in-Away+in-Asks-phase, else-loop-test, then-loop-test+then-not-is_ready}
 
-pub loop-left-init : goal.loop-left-init
-loop-left-init c = (refl, rw (c.parts_of-parts.ensures, whole _))
+one_less : (n : ℕ) → n < piece → piece - n ≡ suc (piece - (n + 1))
+one_less n h = omega arith
 
-pub overflow_sub-left : goal.overflow_sub-left
-overflow_sub-left c = (going_is _ _ _ _ _ (sym c.is_ready.ensures ∙ c.loop-left-test.true)).0
+-- ---- no question is open
+pub returns-in_default : goal.returns-in_default
+unfolding flown_on
+returns-in_default c =
+    let h = sym (flown_over c.args.flight.next c.args.flight c.args.out.now piece _ c.in_default.is) in
+    (ap (λ (g : Flown). g.flight) h, ap (λ (g : Flown). g.out) h)
+
+pub loop-init : goal.loop-init
+loop-init c = (refl, rw (c.parts_of-parts.ensures, whole c.args.flight c.in-Asks.first c.in-Asks.is))
 
 -- ---- too low
-pub shape_of-out-then-pulled : goal.shape_of-out-then-pulled
-shape_of-out-then-pulled c = c.loop-left.invariant.0
+pub returns-in_default-pull_at : goal.returns-in_default-pull_at
+unfolding flown_on together
+returns-in_default-pull_at c =
+    let h = sym (turned_low _ _ _ c.loop.f c.loop.parts _ (one_less _ c.loop-test.true) (sym c.is_ready.ensures ∙ c.if-not-is_ready.false) (sym c.in_default-pull_at.ensures)) ∙ c.loop.invariant.1 in
+    (rw c.together.ensures (ap (λ (g : Flown). g.flight) h), ap (λ (g : Flown). g.out) h)
 
-pub returns-then-pulled : goal.returns-then-pulled
-unfolding flown_on
-returns-then-pulled c =
-    let h = sym (turned_low _ _ _ _ _ _ (sym c.is_ready.ensures ∙ c.loop-left-test.true) c.pull_at-pulled.ensures c.if-pulled.true) ∙ c.loop-left.invariant.1 in
-    (c.land.ensures ∙ rw c.together.ensures (ap (λ (g : Flown). g.flight) h), ap (λ (g : Flown). g.out) h)
-
--- ---- once more
-pub loop-left-smaller-then-look : goal.loop-left-smaller-then-look
-loop-left-smaller-then-look c =
-    (going_is _ _ _ _ _ (sym c.is_ready.ensures ∙ c.loop-left-test.true)).2
-
-pub loop-left-preserved-then-look : goal.loop-left-preserved-then-look
-loop-left-preserved-then-look c = (
-  c.loop-left.invariant.0,
-  rw c.try_again-parts.ensures
-      (sym (turned_again _ _ _ _ _ _ (sym c.is_ready.ensures ∙ c.loop-left-test.true) c.pull_at-pulled.ensures
-      c.if-pulled.false _ c.look_at-look.ensures c.if-look.true) ∙ c.loop-left.invariant.1),
-)
-
--- ---- on
+-- ---- on, and the plain way
 pub step_on-parts-requires : goal.step_on-parts-requires
-step_on-parts-requires c =
-    (going_is c.loop-left.left _ _ _ _ (sym c.is_ready.ensures ∙ c.loop-left-test.true)).3
+step_on-parts-requires c = (ready_is _ _ _ _ (sym c.is_ready.ensures ∙ c.if-not-is_ready.false)).2
 
-pub loop-left-smaller-then-look-2 : goal.loop-left-smaller-then-look-2
-loop-left-smaller-then-look-2 c =
-    (going_is _ _ _ _ _ (sym c.is_ready.ensures ∙ c.loop-left-test.true)).2
-
-pub loop-left-preserved-then-look-2 : goal.loop-left-preserved-then-look-2
-loop-left-preserved-then-look-2 c = (
-  omega (arith, c.step_on-parts.auto, c.loop-left.invariant.0),
-  rw (c.step_on-parts.ensures.0, c.step_on-parts.ensures.1)
-      (sym (turned_on _ _ _ _ _ _ (sym c.is_ready.ensures ∙ c.loop-left-test.true) c.pull_at-pulled.ensures
-      c.if-pulled.false _ c.look_at-look.ensures c.if-look-2.true) ∙ c.loop-left.invariant.1),
-)
-
--- ---- the plain way
 pub answer_plainly-f-requires : goal.answer_plainly-f-requires
 unfolding together
-answer_plainly-f-requires c =
-    rw c.together-in-loop-left.ensures (going_is c.loop-left.left _ _ _ _ (sym c.is_ready.ensures ∙ c.loop-left-test.true)).3
+answer_plainly-f-requires c = rw c.together-in-Away.ensures (ready_is _ _ _ _ (sym c.is_ready.ensures ∙ c.if-not-is_ready.false)).2
 
-pub loop-left-smaller : goal.loop-left-smaller
-loop-left-smaller c =
-    (going_is _ _ _ _ _ (sym c.is_ready.ensures ∙ c.loop-left-test.true)).2
+pub returns-in_default-phase : goal.returns-in_default-phase
+unfolding flown_on
+returns-in_default-phase c =
+    let done = c.answer_plainly-f in
+    let h =
+    sym (flown_over c.args.flight.next done.result done.new.out (piece - (c.loop.counter + 1)) _ c.in_default-phase.is)
+    ∙ rw (done.ensures.0, done.ensures.1, c.together-in-Away.ensures)
+    (sym (turned_plainly _ _ _ c.loop.f c.loop.parts _ (one_less _ c.loop-test.true) (sym c.is_ready.ensures ∙ c.if-not-is_ready.false) _ (sym c.in-Some.ensures))
+    ∙ c.loop.invariant.1) in
+    (ap (λ (g : Flown). g.flight) h, ap (λ (g : Flown). g.out) h)
 
-pub loop-left-preserved : goal.loop-left-preserved
-loop-left-preserved c =
-    let done = c.answer_plainly-f in (
-      omega (arith, done.auto, c.loop-left.invariant.0),
-      rw (c.parts_of-parts-in-loop-left.ensures, whole _, done.ensures.0, done.ensures.1, c.together-in-loop-left.ensures)
-          (sym (turned_plainly _ _ _ _ _ _ (sym c.is_ready.ensures ∙ c.loop-left-test.true) c.pull_at-pulled.ensures c.if-pulled.false) ∙ c.loop-left.invariant.1),
-    )
+pub loop-preserved : goal.loop-preserved
+loop-preserved c =
+    let some = one_less c.loop.counter c.loop-test.true in
+    let ready = sym c.is_ready.ensures ∙ c.if-not-is_ready.false in
+    let high = sym c.in-Some.ensures in
+    elim c.match-look.branch [
+      | in-Again w ↦ (
+        rw w.out-is c.loop.invariant.0,
+        rw (w.out-is, w.f-is, w.parts-is, w.try_again-parts.ensures)
+            (sym (turned_again _ _ _ c.loop.f c.loop.parts _ some ready _ high _ _ w.in-Again.ensures) ∙ c.loop.invariant.1),
+      )
+      | in-On w ↦ (
+        rw w.out-is (omega (arith, w.step_on-parts.auto, c.loop.invariant.0)),
+        rw (w.out-is, w.f-is, w.parts-is, w.step_on-parts.ensures.0, w.step_on-parts.ensures.1)
+            (sym (turned_on _ _ _ c.loop.f c.loop.parts _ some ready _ high _ _ _ w.in-On.ensures) ∙ c.loop.invariant.1),
+      )
+      | in-Away+in-Asks-phase w ↦
+          let done = w.answer_plainly-f in (
+            rw w.out-is (omega (arith, done.auto, c.loop.invariant.0)),
+            rw (w.out-is, w.f-is, w.parts-is, w.parts_of-parts-in-Away.ensures, whole done.result w.in-Asks-phase.question w.in-Asks-phase.is, done.ensures.0, done.ensures.1, w.together-in-Away.ensures)
+                (sym (turned_plainly _ _ _ c.loop.f c.loop.parts _ some ready _ high) ∙ c.loop.invariant.1),
+          )
+    ]
 
 -- ---- no further question is answered here
-pub shape_of-out : goal.shape_of-out
-shape_of-out c = c.loop-left.invariant.0
-
 pub returns : goal.returns
 unfolding flown_on together
 returns c =
-    let h = sym (flown_ends _ _ _ _ (sym c.is_ready.ensures ∙ c.loop-left-test.false)) ∙ c.loop-left.invariant.1 in
-    (c.together-2.ensures ∙ ap (λ (g : Flown). g.flight) h, ap (λ (g : Flown). g.out) h)
+    let stops : record { flight = together c.loop.f c.loop.parts; out = c.loop.out } ≡ flown_on c.args.flight c.args.out.now = elim c.loop-test.branch [
+      | else-loop-test w ↦ sym (flown_none _ _ _ (piece - c.loop.counter) (omega (arith, w.loop-test.false))) ∙ c.loop.invariant.1
+      | then-loop-test+then-not-is_ready w ↦ sym (flown_stops _ _ _ (piece - c.loop.counter) (sym w.is_ready.ensures ∙ w.if-not-is_ready.true)) ∙ c.loop.invariant.1
+    ] in
+    (c.together-2.ensures ∙ ap (λ (g : Flown). g.flight) stops, ap (λ (g : Flown). g.out) stops)
