@@ -7,12 +7,6 @@ ghost use Rattle.std.specs.Float.Ieee.{of_bits, to_bits};
 ghost use Rattle.std.specs.Float.{binary64};
 ghost use Rattle.bits.specs.Patterns.{pattern_of};
 
-#[derive(Clone, Copy)]
-pub enum Pattern {
-    Bits(u64),
-    Nan,
-}
-
 // The float of a pattern.
 pub fn float_of(bits: u64) -> f64
     ensures { result ≡ of_bits binary64 bits }
@@ -23,22 +17,19 @@ pub fn float_of(bits: u64) -> f64
     f64::from_bits(bits)
 }
 
-// The pattern of a float.
-pub fn pattern_of(x: f64) -> Pattern
+// The pattern of a float; none for a NaN.
+pub fn pattern_of(x: f64) -> Option<u64>
     ensures { result ≡ pattern_of x }
 {
-    if x != x {
-        return Pattern::Nan;
+    if x.is_nan() {
+        return None;
     }
-    Pattern::Bits(x.to_bits())
+    Some(x.to_bits())
 }
 
 // The pattern of a float as it is stored: for a NaN the quiet one without sign and payload.
 pub fn bits_of(x: f64) -> u64
     ensures { result ≡ to_bits binary64 x }
 {
-    if x != x {
-        return 0x7ff8_0000_0000_0000;
-    }
-    x.to_bits()
+    pattern_of(x).unwrap_or(0x7ff8_0000_0000_0000)
 }

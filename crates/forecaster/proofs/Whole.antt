@@ -6,6 +6,7 @@ use mathlib.Core.Bool.{Bool, true, false, not, cond, false≢true}
 use mathlib.Core.List.{List, [], ◌∷◌, ◌++◌, append_assoc, append-nil}
 use lib.ListN.{length, replicate, length-replicate}
 use lib.Ieee.{Float}
+use Rattle.std.proofs.Common.{Option, None, Some}
 use Rattle.triple.specs.declared.Triple.{Triple}
 use Rattle.triple.specs.Arithmetic.{nought}
 use Rattle.plan.specs.declared.Settings.{Settings}
@@ -21,10 +22,10 @@ use Rattle.flight.proofs.Pieces.{flown_stops}
 use Rattle.flight.proofs.Telling.{tells_the_story}
 use Rattle.flight.proofs.Ending.{always_ends}
 use Rattle.forecaster.specs.declared.Forecast.{Forecast}
-use Rattle.forecaster.specs.Printed.{ten_of, entry_lines, ending_line, story_lines, float_at, triple_at, settings_with, story_for, printed}
-use Rattle.forecaster.specs.Pieces.{Piece, blank_room, begun_with, begun, flown_piece, piece_of}
+use Rattle.forecaster.specs.Printed.{ten_of, entry_lines, ending_line, story_lines, float_at, triple_at, settings_with, story_for, printed_of, printed}
+use Rattle.forecaster.specs.Pieces.{Piece, blank_room, begun_with, begun_of, begun, flown_piece, piece_of}
 use Rattle.forecaster.specs.Whole.{forecast_after, printed_after, PrintsAll}
-use Rattle.forecaster.proofs.Unread.{over_still, unread_so_far, unread_all, unread_ends}
+use Rattle.forecaster.proofs.Unread.{unread, over_still, unread_so_far, unread_all, unread_ends}
 
 -- ---- lines one after the other
 lines_more : (xs ys : List Entry) → entry_lines (xs ++ ys) ≡ entry_lines xs ++ entry_lines ys
@@ -181,33 +182,25 @@ module _ (s : Settings) (t0 tf : Float) (r0 v0 : Triple) where
 
 -- ---- every input
 pub prints_all : (text : List ℕ) → PrintsAll text
-unfolding begun begun_with printed story_for
-prints_all text = go (read_nine text).ok refl
+unfolding begun begun_of begun_with printed printed_of story_for
+prints_all text = go (read_nine text) refl
   where
-    numbers : List ℕ
-    numbers = (read_nine text).numbers
-
-    s : Settings
-    s = settings_with (float_at numbers 2)
-
-    f : Flight
-    f = taken_off s (float_at numbers 0) (float_at numbers 1) (triple_at numbers 3) (triple_at numbers 6)
-
-    begins : (d : Bool) → (read_nine text).ok ≡ d → begun text ≡ record { reads = d; over = false; flight = f }
-    begins d e = ap (λ (b : Bool). record { reads = b; over = false; flight = f }) e
-
-    go : (d : Bool) → (read_nine text).ok ≡ d → PrintsAll text
-    go true e =
-        let b = begins true e in
-        let w : printed text ≡ story_lines (story_for numbers) = rw e in
+    go : (read : Option (List ℕ)) → read_nine text ≡ read → PrintsAll text
+    go (Some numbers) e =
+        let s = settings_with (float_at numbers 2) in
+        let f = taken_off s (float_at numbers 0) (float_at numbers 1) (triple_at numbers 3) (triple_at numbers 6) in
+        let b : begun text ≡ flying f = ap begun_of e in
+        let w : printed text ≡ story_lines (story_for numbers) = ap printed_of e in
         record {
           so_far = λ (k : ℕ). subst (λ (x : Forecast). (rest : List ℕ) × (printed_after k x ++ rest ≡ printed text)) (sym b) (rw w (read_so_far s _ _ _ _ k));
           all = λ (k : ℕ). subst (λ (x : Forecast). (forecast_after k x).over ≡ true → printed_after k x ≡ printed text) (sym b) (rw w (read_all s _ _ _ _ k));
           ends = λ (k : ℕ) (h : ample ≤ k). subst (λ (x : Forecast). (forecast_after k x).over ≡ true) (sym b) (read_ends s _ _ _ _ k h);
         }
-    go false e =
-        let b = begins false e in
-        let w : printed text ≡ refusal_line 19 = rw e in
+    go None e =
+        let zeros : List ℕ = replicate 9 0 in
+        let f = taken_off (settings_with (float_at zeros 2)) (float_at zeros 0) (float_at zeros 1) (triple_at zeros 3) (triple_at zeros 6) in
+        let b : begun text ≡ unread f = ap begun_of e in
+        let w : printed text ≡ refusal_line 19 = ap printed_of e in
         record {
           so_far = λ (k : ℕ). subst (λ (x : Forecast). (rest : List ℕ) × (printed_after k x ++ rest ≡ printed text)) (sym b) (rw w (unread_so_far k f));
           all = λ (k : ℕ). subst (λ (x : Forecast). (forecast_after k x).over ≡ true → printed_after k x ≡ printed text) (sym b) (rw w (unread_all k f));

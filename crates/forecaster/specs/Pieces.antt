@@ -1,6 +1,6 @@
 -- The same in pieces: what each call of `print_on` prints, and what is left. `begun` and `piece_of` are what the contracts of `begin` and `print_on`
 -- cite; that the pieces are all that is printed is said in Whole.
-use Rattle.std.specs.Prelude.{ℕ, ◌*◌, ◌+◌, Bool, true, false, not, cond, List, [], ◌++◌, leb, replicate, Float}
+use Rattle.std.specs.Prelude.{ℕ, ◌*◌, ◌+◌, Bool, true, false, not, cond, List, [], ◌++◌, leb, replicate, Float, Option, None, Some}
 use Rattle.triple.specs.Arithmetic.{nought}
 use Rattle.refusals.specs.Numbers.{number_of}
 use Rattle.refusals.specs.declared.Refusal.TheVariants.{InputLine}
@@ -20,8 +20,13 @@ begun_with reads numbers =
       flight = taken_off (settings_with (float_at numbers 2)) (float_at numbers 0) (float_at numbers 1) (triple_at numbers 3) (triple_at numbers 6);
     }
 
+-- of the nine numbers that were read; where none were, of zeros that nothing flies with
+unfoldable pub begun_of : Option (List ℕ) → Forecast
+begun_of None = begun_with false (replicate 9 0)
+begun_of (Some numbers) = begun_with true numbers
+
 unfoldable pub begun : List ℕ → Forecast
-begun text = begun_with (read_nine text).ok (read_nine text).numbers
+begun text = begun_of (read_nine text)
 
 -- ---- a piece
 pub record Piece : Type 0 where

@@ -1,7 +1,7 @@
 -- 02, W-207: all that `forecast` prints for an input. "It reads t0, tf, h, r and v from standard input, nine lines of sixteen hex digits [..], other
 -- settings by default with samples [..]. It prints a line per sample: its number in decimal and ten floats in the same hex [..]; a refusal's number is the
 -- last line."; "a missing, extra or misshapen input line prints 19".
-use Rattle.std.specs.Prelude.{ℕ, ◌+◌, cond, List, [], ◌∷◌, ◌++◌, eqb, get_or, Float}
+use Rattle.std.specs.Prelude.{ℕ, ◌+◌, Option, None, Some, cond, List, [], ◌∷◌, ◌++◌, eqb, get_or, Float}
 use Rattle.std.specs.Float.{binary64}
 use Rattle.std.specs.Float.Ieee.{of_bits}
 use Rattle.triple.specs.declared.Triple.{Triple}
@@ -53,5 +53,9 @@ unfoldable pub story_for : List ℕ → Story
 story_for numbers = story_of (settings_with (float_at numbers 2)) (float_at numbers 0) (float_at numbers 1) (triple_at numbers 3) (triple_at numbers 6)
 
 -- ---- all that is printed
+unfoldable pub printed_of : Option (List ℕ) → List ℕ
+printed_of None = refusal_line (number_of InputLine)
+printed_of (Some numbers) = story_lines (story_for numbers)
+
 unfoldable pub printed : List ℕ → List ℕ
-printed text = cond (read_nine text).ok (story_lines (story_for (read_nine text).numbers)) (refusal_line (number_of InputLine))
+printed text = printed_of (read_nine text)

@@ -74,9 +74,10 @@ fn begin_with(reads: bool, numbers: [u64; 9]) -> Forecast
 pub fn begin(text: &[u8]) -> Forecast
     ensures { result ≡ begun text.now }
 {
-    let nine = lines::read_nine(text);
-    let numbers = nine.numbers;
-    begin_with(nine.ok, numbers)
+    match lines::read_nine(text) {
+        Some(numbers) => begin_with(true, numbers),
+        None => begin_with(false, [0; 9]),
+    }
 }
 
 // All that is printed of an input that can't be read.

@@ -6,8 +6,8 @@ use native.Mathlib.Omega.{arith}
 use mathlib.Core.List.{List, [], ◌∷◌, map}
 use lib.Pow.{pow_pos, pow_mono, split, ones_lt, mod-mod-pow}
 use lib.Bits.{bit_and, and_block, and_mask, and_zero_r}
-use lib.ListN.{length, set}
-use Rattle.lines.specs.Put.{over}
+use lib.ListN.{length}
+use Rattle.std.specs.Int.{w64, to_le_bytes}
 use Rattle.lines.specs.Words.{fields, bytes_of}
 
 -- a mask of the k low bits in each of m fields of j + k bits
@@ -84,19 +84,10 @@ bytes_again (x ∷ xs) b =
     let high : (fields 256 xs * 256 + x) / 256 ≡ fields 256 xs = omega arith in
     rw (low, high) (ap (λ (l : List ℕ). x ∷ l) (bytes_again xs b.1))
 
--- the eight bytes of a word as the code puts them
-pub eight_bytes : (w at : ℕ) (l : List ℕ)
-    → set (set (set (set (set (set (set (set l at (w % 256)) (at + 1) (w / 256 % 256)) (at + 2) (w / 65536 % 256)) (at + 3) (w / 16777216 % 256)) (at + 4) (w / 4294967296 % 256)) (at + 5) (w / 1099511627776 % 256)) (at + 6) (w / 281474976710656 % 256)) (at + 7) (w / 72057594037927936 % 256)
-    ≡ over at (bytes_of 8 w) l
-unfolding over bytes_of
-eight_bytes w at l =
-    let s₁ : at + 1 ≡ suc at = omega arith in
-    let s₂ : at + 2 ≡ suc (suc at) = omega arith in
-    let s₃ : at + 3 ≡ suc (suc (suc at)) = omega arith in
-    let s₄ : at + 4 ≡ suc (suc (suc (suc at))) = omega arith in
-    let s₅ : at + 5 ≡ suc (suc (suc (suc (suc at)))) = omega arith in
-    let s₆ : at + 6 ≡ suc (suc (suc (suc (suc (suc at))))) = omega arith in
-    let s₇ : at + 7 ≡ suc (suc (suc (suc (suc (suc (suc at)))))) = omega arith in
+-- std's bytes of a word, the lowest first
+pub eight_bytes : (w : ℕ) → to_le_bytes w64 w ≡ bytes_of 8 w
+unfolding bytes_of
+eight_bytes w =
     let b₂ : w / 65536 ≡ w / 256 / 256 = omega arith in
     let b₃ : w / 16777216 ≡ w / 256 / 256 / 256 = omega arith in
     let b₄ : w / 4294967296 ≡ w / 256 / 256 / 256 / 256 = omega arith in

@@ -8,7 +8,8 @@ use lib.ListN.{length, get_or, take, drop, set, length-append}
 use Rattle.lines.specs.Put.{over}
 use Rattle.lines.specs.Digits.{hex_of, float_hex}
 use Rattle.lines.specs.Lines.{floats_of, ten_from}
-use Rattle.lines.proofs.Taken.{next_of, all_of}
+use lib.Seq.{drop-cons}
+use Rattle.std.proofs.lemmas.List.{drop_all}
 use Rattle.lines.proofs.Over.{length_hex, over_append}
 
 length_float : (x : Float) → length (float_hex x) ≡ 16
@@ -33,28 +34,25 @@ front_float x xs at l =
     let e : at + suc (length (float_hex x)) ≡ at + 17 = omega (arith, length_float x) in
     sym (over_append at (32 ∷ float_hex x) (floats_of xs) l ∙ ap (λ (k : ℕ). over k (floats_of xs) (over (suc at) (float_hex x) (set l at 32))) e)
 
--- the same as a loop has it, with i of ten behind it
-pub next_float : (numbers : List Float) (first i at bits : ℕ) (l : List ℕ) → i < 10 → first + 10 ≤ length numbers
-    → bits ≡ to_bits binary64 (get_or numbers (first + i) nan)
-    → over (at + 17 * (i + 1)) (floats_of (take (10 - (i + 1)) (drop (first + (i + 1)) numbers))) (over (at + 17 * i + 1) (hex_of bits) (set l (at + 17 * i) 32))
-    ≡ over (at + 17 * i) (floats_of (take (10 - i) (drop (first + i) numbers))) l
+-- the same as a loop has it, with i of them behind it
+pub next_float : (xs : List Float) (i at bits : ℕ) (l : List ℕ) → i < length xs → bits ≡ to_bits binary64 (get_or xs i nan)
+    → over (at + 17 * (i + 1)) (floats_of (drop (i + 1) xs)) (over (at + 17 * i + 1) (hex_of bits) (set l (at + 17 * i) 32))
+    ≡ over (at + 17 * i) (floats_of (drop i xs)) l
 unfolding float_hex
-next_float numbers first i at bits l h n e =
-    let x = get_or numbers (first + i) nan in
-    let rest = take (10 - (i + 1)) (drop (first + (i + 1)) numbers) in
+next_float xs i at bits l h e =
     let e₁ : at + 17 * (i + 1) ≡ at + 17 * i + 17 = omega arith in
     let e₂ : at + 17 * i + 1 ≡ suc (at + 17 * i) = omega arith in
-    rw (e₁, e₂, e, next_of numbers nan 10 first i h n) (front_float x rest (at + 17 * i) l)
+    let e₃ : i + 1 ≡ suc i = omega arith in
+    rw (e₁, e₂, e₃, e, drop-cons xs i nan h) (front_float (get_or xs i nan) (drop (suc i) xs) (at + 17 * i) l)
 
--- none behind ten
-pub ten_floats : (numbers : List Float) (first i at : ℕ) (l : List ℕ) → i ≡ 10
-    → l ≡ over (at + 17 * i) (floats_of (take (10 - i) (drop (first + i) numbers))) l
+-- none of them, and all
+pub first_floats : (xs : List Float) (at : ℕ) (l : List ℕ) → over (at + 17 * 0) (floats_of xs) l ≡ over at (floats_of xs) l
+first_floats xs at l = let e : at + 17 * 0 ≡ at = omega arith in rw e refl
+
+pub no_float_left : (xs : List Float) (i at : ℕ) (l : List ℕ) → length xs ≤ i → over at (floats_of (drop i xs)) l ≡ l
 unfolding floats_of over
-ten_floats numbers first i at l e = rw e refl
+no_float_left xs i at l h = rw (drop_all i xs h) refl
 
-pub all_floats : (numbers : List Float) (first at : ℕ) (l : List ℕ)
-    → over (at + 17 * 0) (floats_of (take (10 - 0) (drop (first + 0) numbers))) l ≡ over at (floats_of (ten_from first numbers)) l
+pub ten_are : (numbers : List Float) (first : ℕ) → take (first + 10 - first) (drop first numbers) ≡ ten_from first numbers
 unfolding ten_from
-all_floats numbers first at l =
-    let e : at + 17 * 0 ≡ at = omega arith in
-    rw (e, all_of numbers 10 first) refl
+ten_are numbers first = let e : first + 10 - first ≡ 10 = omega arith in rw e refl

@@ -1,6 +1,5 @@
 pub mod Over
 pub mod Places
-pub mod Taken
 pub mod Floats
 pub mod Parts
 pub mod Values

@@ -11,7 +11,9 @@ use lib.ListN.{length, get_or, take, drop, set, replicate, length-append, length
 use lib.Seq.{drop-drop, get_or-drop, drop-append-le, take-append-le}
 use borrow.Author.Tests.{leb-true, le-leb, eq-eqb, ne_eqb}
 use Rattle.lines.specs.Put.{over}
-use Rattle.lines.specs.Read.{are_digits, sixteen_from, is_hex_at, read_hex}
+use Rattle.lines.specs.Read.{are_digits, number_of, sixteen_from}
+use Rattle.std.proofs.Common.{None, Some}
+use Rattle.lines.proofs.Values.{is_number, is_no_number}
 use Rattle.lines.specs.Nine.{begins_with_line, are_lines, patterns_of, ended, is_nine, read_nine}
 
 -- ---- the length
@@ -26,11 +28,11 @@ other_length (suc n) text h = by_length (leb 17 (length text)) refl (other_lengt
         rw (rest (λ (z : length (drop 17 text) ≡ 17 * n). h (omega (arith, z, length-drop 17 text)))) (and-false (begins_with_line text))
     by_length false e rest = rw e refl
 
-pub not_nine : (text : List ℕ) → is_nine text ≡ false → read_nine text ≡ record { ok = false; numbers = replicate 9 0 }
+pub not_nine : (text : List ℕ) → is_nine text ≡ false → read_nine text ≡ None
 unfolding read_nine
 not_nine text e = rw e refl
 
-pub is_nine_lem : (text : List ℕ) → is_nine text ≡ true → read_nine text ≡ record { ok = true; numbers = patterns_of 9 (ended text) }
+pub is_nine_lem : (text : List ℕ) → is_nine text ≡ true → read_nine text ≡ Some (patterns_of 9 (ended text))
 unfolding read_nine
 is_nine_lem text e = rw e refl
 
@@ -78,42 +80,38 @@ module _ (text : List ℕ) (least : 152 ≤ length text) (most : length text ≤
 
   -- ---- line i
   module _ (i : ℕ) (h : i < 9) where
-    digits_are : is_hex_at (17 * i) text ≡ are_digits (sixteen_from (17 * i) text)
-    unfolding is_hex_at
-    digits_are = let r : 17 * i + 16 ≤ length text = omega arith in rw (le-leb _ _ r) refl
-
-    line_is : begins_with_line (drop (17 * i) (ended text)) ≡ (is_hex_at (17 * i) text && eqb (get_or text (17 * i + 16) 10) 10)
+    line_is : begins_with_line (drop (17 * i) (ended text)) ≡ (are_digits (sixteen_from (17 * i) text) && eqb (get_or text (17 * i + 16) 10) 10)
     unfolding begins_with_line
     line_is =
         let r : 17 ≤ length (drop (17 * i) (ended text)) = omega (arith, length-drop (17 * i) (ended text), length_ended) in
-        rw (le-leb _ _ r, sixteen_ended (17 * i) (omega arith), get_or-drop (17 * i) (ended text) 16 10, at_ended (17 * i + 16), digits_are) refl
+        rw (le-leb _ _ r, sixteen_ended (17 * i) (omega arith), get_or-drop (17 * i) (ended text) 16 10, at_ended (17 * i + 16)) refl
 
     rest_is : drop 17 (drop (17 * i) (ended text)) ≡ drop (17 * (i + 1)) (ended text)
     rest_is = let e : 17 * i + 17 ≡ 17 * (i + 1) = omega arith in drop-drop 17 (17 * i) (ended text) ∙ ap (λ (k : ℕ). drop k (ended text)) e
 
     lines_are : are_lines (9 - i) (drop (17 * i) (ended text))
-        ≡ ((is_hex_at (17 * i) text && eqb (get_or text (17 * i + 16) 10) 10) && are_lines (9 - (i + 1)) (drop (17 * (i + 1)) (ended text)))
+        ≡ ((are_digits (sixteen_from (17 * i) text) && eqb (get_or text (17 * i + 16) 10) 10) && are_lines (9 - (i + 1)) (drop (17 * (i + 1)) (ended text)))
     unfolding are_lines
     lines_are = let e : 9 - i ≡ suc (9 - (i + 1)) = omega arith in rw (e, line_is, rest_is) refl
 
-    pub no_digits : is_hex_at (17 * i) text ≡ false → are_lines (9 - i) (drop (17 * i) (ended text)) ≡ false
-    no_digits e = lines_are ∙ rw e refl
+    pub no_digits : number_of (sixteen_from (17 * i) text) ≡ None → are_lines (9 - i) (drop (17 * i) (ended text)) ≡ false
+    no_digits e = lines_are ∙ rw (is_no_number _ e) refl
 
-    pub no_end : is_hex_at (17 * i) text ≡ true → eqb (get_or text (17 * i + 16) 10) 10 ≡ false → are_lines (9 - i) (drop (17 * i) (ended text)) ≡ false
-    no_end e d = lines_are ∙ rw (e, d) refl
+    pub no_end : eqb (get_or text (17 * i + 16) 10) 10 ≡ false → are_lines (9 - i) (drop (17 * i) (ended text)) ≡ false
+    no_end d = lines_are ∙ rw (d, and-false) refl
 
-    pub next_lines : is_hex_at (17 * i) text ≡ true → eqb (get_or text (17 * i + 16) 10) 10 ≡ true
+    pub next_lines : (v : ℕ) → number_of (sixteen_from (17 * i) text) ≡ Some v → eqb (get_or text (17 * i + 16) 10) 10 ≡ true
         → are_lines (9 - i) (drop (17 * i) (ended text)) ≡ are_lines (9 - (i + 1)) (drop (17 * (i + 1)) (ended text))
-    next_lines e d = lines_are ∙ rw (e, d) refl
+    next_lines v e d = lines_are ∙ rw ((is_number _ v e).0, d) refl
 
-    pub next_number : is_hex_at (17 * i) text ≡ true → (l : List ℕ)
-        → over (i + 1) (patterns_of (9 - (i + 1)) (drop (17 * (i + 1)) (ended text))) (set l i (read_hex text (17 * i)).value)
+    pub next_number : (v : ℕ) → number_of (sixteen_from (17 * i) text) ≡ Some v → (l : List ℕ)
+        → over (i + 1) (patterns_of (9 - (i + 1)) (drop (17 * (i + 1)) (ended text))) (set l i v)
         ≡ over i (patterns_of (9 - i) (drop (17 * i) (ended text))) l
-    unfolding over patterns_of read_hex
-    next_number e l =
+    unfolding over patterns_of
+    next_number v e l =
         let s : 9 - i ≡ suc (9 - (i + 1)) = omega arith in
         let o : i + 1 ≡ suc i = omega arith in
-        rw (e, s, rest_is, sixteen_ended (17 * i) (omega arith), o) refl
+        rw (s, rest_is, sixteen_ended (17 * i) (omega arith), (is_number _ v e).1, o) refl
 
 -- ---- none and all of them
 pub first_lines : (text : List ℕ) → is_nine text ≡ are_lines (9 - 0) (drop (17 * 0) (ended text))

@@ -2,10 +2,12 @@
 use mathlib.Core.Path.{◌≡◌, refl, sym, ◌∙◌, ap}
 use Prim.Native.Nat.{ℕ, zero, suc, ◌+◌, ◌-◌, ◌/◌, ◌%◌, ◌≤◌, ◌<◌}
 use native.Mathlib.Omega.{arith}
-use mathlib.Core.List.{List, [], ◌∷◌, ◌++◌}
+use mathlib.Core.List.{List, [], ◌∷◌, ◌++◌, append_assoc}
+use Rattle.std.proofs.lemmas.List.{take-append-drop, take_more_set, drop-set-lt, drop-drop}
+use borrow.Rule.Slice.PartMut.{post_of}
 use mathlib.Core.Bool.{true, false}
 use lib.Dec.{leb}
-use lib.ListN.{length, set, length-set, length-append}
+use lib.ListN.{length, take, drop, set, length-set, length-append}
 use lib.Seq.{set_comm}
 use borrow.Author.Tests.{lt-ltb}
 use Rattle.lines.specs.Put.{over, put, after}
@@ -15,6 +17,25 @@ pub length_over : (at : ℕ) (bytes l : List ℕ) → length (over at bytes l) �
 unfolding over
 length_over at [] l = refl
 length_over at (b ∷ bytes) l = length_over (suc at) bytes (set l at b) ∙ length-set l at b
+
+-- what is before them, they, and what is behind them
+pub over_part : (at : ℕ) (bytes l : List ℕ) → at + length bytes ≤ length l → over at bytes l ≡ take at l ++ (bytes ++ drop (at + length bytes) l)
+unfolding over
+over_part at [] l h = let e : at + 0 ≡ at = omega arith in rw e (sym (take-append-drop at l))
+over_part at (b ∷ bytes) l h =
+    let t : at < length l = omega arith in
+    let r : suc at + length bytes ≤ length (set l at b) = omega (arith, length-set l at b) in
+    let e : suc at + length bytes ≡ at + suc (length bytes) = omega arith in
+    let d : at < at + suc (length bytes) = omega arith in
+    let n : at + 1 ≡ suc at = omega arith in
+    over_part (suc at) bytes (set l at b) r
+    ∙ rw (e, drop-set-lt (at + suc (length bytes)) l at b d, ← n, take_more_set l at b t, append_assoc) refl
+
+pub over_middle : (at k : ℕ) (bytes part l : List ℕ) → part ≡ bytes → length bytes ≡ k → at + k ≤ length l
+    → take at l ++ (part ++ post_of at (at + k - at) l) ≡ over at bytes l
+over_middle at k bytes part l e n h =
+    let j : at + (at + k - at) ≡ at + length bytes = omega arith in
+    rw (e, over_part at bytes l (omega arith), ← j) (ap (λ (t : List ℕ). take at l ++ (bytes ++ t)) (drop-drop (at + k - at) at l))
 
 -- one list of bytes after another
 pub over_append : (at : ℕ) (xs ys l : List ℕ) → over at (xs ++ ys) l ≡ over (at + length xs) ys (over at xs l)

@@ -7,41 +7,44 @@ use mathlib.Core.Bool.{Bool, true, false, ◌&&◌}
 use mathlib.Core.List.{List, [], ◌∷◌, ◌++◌}
 use lib.Dec.{ltb}
 use borrow.Author.Tests.{ltb-true, ltb-false, lt-ltb}
+use Rattle.std.proofs.Common.{Option, Some}
+use Rattle.std.specs.Option.{is_some, unwrap_or}
 use Rattle.lines.specs.Digits.{glyph, digits, hex_of, places, decimal_of}
 use Rattle.lines.specs.Read.{digit_of, are_digits, value_from, value_of}
 use Rattle.lines.specs.Trips.{HexIsRead, meant_from, DecimalMeans}
 use Rattle.lines.proofs.Values.{is_within, is_above}
 
 -- ---- hex
-digit_again : (d : ℕ) → d < 16 → digit_of (glyph d) ≡ d
+digit_again : (d : ℕ) → d < 16 → digit_of (glyph d) ≡ Some d
 unfolding glyph digit_of
 digit_again d h = by_kind (ltb d 10) refl
   where
-    by_kind : (numeral : Bool) → ltb d 10 ≡ numeral → digit_of (glyph d) ≡ d
+    by_kind : (numeral : Bool) → ltb d 10 ≡ numeral → digit_of (glyph d) ≡ Some d
     by_kind true e =
         let s : d < 10 = ltb-true d 10 e in
-        rw (e, is_within 48 57 (48 + d) (omega arith) (omega arith)) (omega arith)
+        let v : 48 + d - 48 ≡ d = omega arith in
+        rw (e, is_within 48 57 (48 + d) (omega arith) (omega arith)) (ap Some v)
     by_kind false e =
         let s : 10 ≤ d = ltb-false d 10 e in
-        rw (e, is_above 48 57 (87 + d) (omega arith) (omega arith), is_above 65 70 (87 + d) (omega arith) (omega arith), is_within 97 102 (87 + d) (omega arith) (omega arith)) (omega arith)
+        let v : 87 + d - 87 ≡ d = omega arith in
+        rw (e, is_above 48 57 (87 + d) (omega arith) (omega arith), is_above 65 70 (87 + d) (omega arith) (omega arith), is_within 97 102 (87 + d) (omega arith) (omega arith)) (ap Some v)
 
-value_last : (v : ℕ) (bytes : List ℕ) (b : ℕ) → value_from v (bytes ++ (b ∷ [])) ≡ value_from v bytes * 16 + digit_of b
+value_last : (v : ℕ) (bytes : List ℕ) (b : ℕ) → value_from v (bytes ++ (b ∷ [])) ≡ value_from v bytes * 16 + unwrap_or (digit_of b) 0
 unfolding value_from
 value_last v [] b = refl
-value_last v (x ∷ bytes) b = value_last (v * 16 + digit_of x) bytes b
+value_last v (x ∷ bytes) b = value_last (v * 16 + unwrap_or (digit_of x) 0) bytes b
 
-digits_last : (bytes : List ℕ) (b : ℕ) → digit_of b < 16 → are_digits (bytes ++ (b ∷ [])) ≡ are_digits bytes
+digits_last : (bytes : List ℕ) (b d : ℕ) → digit_of b ≡ Some d → are_digits (bytes ++ (b ∷ [])) ≡ are_digits bytes
 unfolding are_digits
-digits_last [] b h = rw (lt-ltb _ _ h) refl
-digits_last (x ∷ bytes) b h = ap (λ (t : Bool). ltb (digit_of x) 16 && t) (digits_last bytes b h)
+digits_last [] b d h = rw h refl
+digits_last (x ∷ bytes) b d h = ap (λ (t : Bool). is_some (digit_of x) && t) (digits_last bytes b d h)
 
 all_digits : (k n : ℕ) → are_digits (digits 16 k n) ≡ true
 unfolding digits are_digits
 all_digits zero n = refl
 all_digits (suc k) n =
     let h : n % 16 < 16 = omega arith in
-    let d : digit_of (glyph (n % 16)) < 16 = omega (arith, digit_again (n % 16) h) in
-    digits_last (digits 16 k (n / 16)) (glyph (n % 16)) d ∙ all_digits k (n / 16)
+    digits_last (digits 16 k (n / 16)) (glyph (n % 16)) (n % 16) (digit_again (n % 16) h) ∙ all_digits k (n / 16)
 
 value_again : (k n : ℕ) → n < 16 ^ k → value_from 0 (digits 16 k n) ≡ n
 unfolding digits value_from
@@ -50,7 +53,7 @@ value_again (suc k) n h =
     let d : n % 16 < 16 = omega arith in
     let b : n < 16 ^ k * 16 = rw pow-suc at h in
     let r : n / 16 < 16 ^ k = omega arith in
-    omega (arith, value_last 0 (digits 16 k (n / 16)) (glyph (n % 16)), value_again k (n / 16) r, digit_again (n % 16) d)
+    omega (arith, value_last 0 (digits 16 k (n / 16)) (glyph (n % 16)), value_again k (n / 16) r, ap (λ (o : Option ℕ). unwrap_or o 0) (digit_again (n % 16) d))
 
 pub hex_is_read : HexIsRead
 unfolding hex_of value_of

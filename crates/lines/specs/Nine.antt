@@ -1,6 +1,5 @@
 -- The input: nine lines, each of sixteen hex digits and a newline. Only the ninth newline may be missing.
-use Rattle.std.specs.Prelude.{ℕ, zero, suc, Bool, ◌&&◌, cond, List, [], ◌∷◌, ◌++◌, leb, eqb, length, get_or, take, drop, replicate}
-use Rattle.lines.specs.declared.Nine.{Nine}
+use Rattle.std.specs.Prelude.{ℕ, zero, suc, Bool, ◌&&◌, cond, List, [], ◌∷◌, ◌++◌, leb, eqb, length, get_or, take, drop, Option, None, Some}
 use Rattle.lines.specs.Read.{are_digits, value_of}
 
 -- a text that begins with a line: seventeen bytes are there, sixteen digits and a newline
@@ -24,6 +23,6 @@ ended text = cond (eqb (length text) 152) (text ++ (10 ∷ [])) text
 unfoldable pub is_nine : List ℕ → Bool
 is_nine text = are_lines 9 (ended text)
 
--- whether a text is an input, and its nine numbers; all 0 where it is none
-unfoldable pub read_nine : List ℕ → Nine
-read_nine text = record { ok = is_nine text; numbers = cond (is_nine text) (patterns_of 9 (ended text)) (replicate 9 0) }
+-- the nine numbers of a text that is an input
+unfoldable pub read_nine : List ℕ → Option (List ℕ)
+read_nine text = cond (is_nine text) (Some (patterns_of 9 (ended text))) None

@@ -1,25 +1,29 @@
 -- Hex digits read: small or capital.
-use Rattle.std.specs.Prelude.{ℕ, ◌+◌, ◌-◌, ◌*◌, Bool, true, ◌&&◌, cond, List, [], ◌∷◌, leb, ltb, length, take, drop}
-use Rattle.lines.specs.declared.Sixteen.{Sixteen}
+use Rattle.std.specs.Prelude.{ℕ, ◌+◌, ◌-◌, ◌*◌, Bool, true, ◌&&◌, cond, List, [], ◌∷◌, leb, length, take, drop, Option, None, Some}
+use Rattle.std.specs.Option.{is_some, unwrap_or}
 
 unfoldable pub within : ℕ → ℕ → ℕ → Bool
 within least most b = leb least b && leb b most
 
--- the value of a digit: 0 to 9, A to F, a to f; 16 for any other byte
-unfoldable pub digit_of : ℕ → ℕ
-digit_of b = cond (within 48 57 b) (b - 48) (cond (within 65 70 b) (b - 55) (cond (within 97 102 b) (b - 87) 16))
+-- the value of a digit: 0 to 9, A to F, a to f; none for any other byte
+unfoldable pub digit_of : ℕ → Option ℕ
+digit_of b = cond (within 48 57 b) (Some (b - 48)) (cond (within 65 70 b) (Some (b - 55)) (cond (within 97 102 b) (Some (b - 87)) None))
 
 unfoldable pub are_digits : List ℕ → Bool
 are_digits [] = true
-are_digits (b ∷ bytes) = ltb (digit_of b) 16 && are_digits bytes
+are_digits (b ∷ bytes) = is_some (digit_of b) && are_digits bytes
 
--- the number that digits mean, behind those that mean `before`
+-- the number that digits mean, behind those that mean `before`; what is no digit counts as 0
 unfoldable pub value_from : ℕ → List ℕ → ℕ
 value_from before [] = before
-value_from before (b ∷ bytes) = value_from (before * 16 + digit_of b) bytes
+value_from before (b ∷ bytes) = value_from (before * 16 + unwrap_or (digit_of b) 0) bytes
 
 unfoldable pub value_of : List ℕ → ℕ
 value_of bytes = value_from 0 bytes
+
+-- the number, where all of them are digits
+unfoldable pub number_of : List ℕ → Option ℕ
+number_of bytes = cond (are_digits bytes) (Some (value_of bytes)) None
 
 -- ---- the sixteen bytes from place `at` on
 unfoldable pub sixteen_from : ℕ → List ℕ → List ℕ
@@ -29,5 +33,5 @@ sixteen_from at text = take 16 (drop at text)
 unfoldable pub is_hex_at : ℕ → List ℕ → Bool
 is_hex_at at text = leb (at + 16) (length text) && are_digits (sixteen_from at text)
 
-unfoldable pub read_hex : List ℕ → ℕ → Sixteen
-read_hex text at = record { ok = is_hex_at at text; value = cond (is_hex_at at text) (value_of (sixteen_from at text)) 0 }
+unfoldable pub read_hex : List ℕ → ℕ → Option ℕ
+read_hex text at = cond (is_hex_at at text) (Some (value_of (sixteen_from at text))) None

@@ -14,20 +14,6 @@ mod rows;
 mod spell;
 mod word;
 
-// What sixteen bytes mean; the value is 0 where they are not all hex digits.
-#[derive(Clone, Copy)]
-pub struct Sixteen {
-    pub ok: bool,
-    pub value: u64,
-}
-
-// What nine lines mean; the numbers are 0 where a text is not nine lines.
-#[derive(Clone, Copy)]
-pub struct Nine {
-    pub ok: bool,
-    pub numbers: [u64; 9],
-}
-
 // The sixteen hex digits of a number; the place after them.
 pub fn put_hex(x: u64, at: usize, out: &mut [u8]) -> usize
     ensures value { result ≡ after (hex_of x) at out.old }
@@ -89,27 +75,18 @@ pub fn put_line(n: u64, numbers: &[f64], first: usize, at: usize, out: &mut [u8]
 }
 
 // The number whose sixteen hex digits, small or capital, stand from `at` on.
-pub fn read_hex(text: &[u8], at: usize) -> Sixteen
+pub fn read_hex(text: &[u8], at: usize) -> Option<u64>
     ensures { result ≡ read_hex text.now at }
 {
-    if !spell::has_room(16, at, text.len()) {
-        return Sixteen {
-            ok: false,
-            value: 0,
-        };
-    }
-    reading::sixteen(text, at)
+    reading::sixteen(text.get(at..)?.get(..16)?)
 }
 
 // Nine lines, each of sixteen hex digits and a newline; the ninth newline may be missing, and nothing else may be there.
-pub fn read_nine(text: &[u8]) -> Nine
+pub fn read_nine(text: &[u8]) -> Option<[u64; 9]>
     ensures { result ≡ read_nine text.now }
 {
-    if text.len() < 152 {
-        return reading::none();
-    }
-    if text.len() > 153 {
-        return reading::none();
+    if text.len() < 152 || text.len() > 153 {
+        return None;
     }
     reading::lines(text)
 }

@@ -12,12 +12,10 @@ fn floats(numbers: &[f64], first: usize, at: usize, out: &mut [u8])
     requires { (first + 10 ≤ length numbers.now) × (at + 170 ≤ length out.old) }
     ensures { out.new ≡ over at (floats_of (ten_from first numbers.now)) out.old }
 {
-    let mut i = 0usize;
-    while i < 10 {
+    for (i, x) in numbers[first..first + 10].iter().enumerate() {
         let place = at + 17 * i;
         out[place] = b' ';
-        spell::hex(bits::bits_of(numbers[first + i]), place + 1, out);
-        i += 1;
+        spell::hex(bits::bits_of(*x), place + 1, out);
     }
 }
 

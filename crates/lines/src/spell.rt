@@ -11,13 +11,7 @@ use crate::word;
 pub fn has_room(k: usize, at: usize, room: usize) -> bool
     ensures { result ≡ leb (at + k) room }
 {
-    if at > room {
-        return false;
-    }
-    if room - at < k {
-        return false;
-    }
-    true
+    at <= room && k <= room - at
 }
 
 // The sixteen hex digits of a number.
@@ -35,16 +29,7 @@ pub fn hex(x: u64, at: usize, out: &mut [u8])
 pub fn places(n: u64) -> usize
     ensures { (result ≡ Digits·places 19 n) × (result ≤ 20) }
 {
-    let mut rest = n;
-    let mut k = 1usize;
-    while k < 20 {
-        if rest < 10 {
-            return k;
-        }
-        rest /= 10;
-        k += 1;
-    }
-    k
+    n.checked_ilog10().unwrap_or(0) as usize + 1
 }
 
 // The last k decimal digits of a number.
@@ -53,9 +38,7 @@ pub fn decimal(n: u64, k: usize, at: usize, out: &mut [u8])
     ensures { out.new ≡ over at (digits 10 k n) out.old }
 {
     let mut rest = n;
-    let mut i = k;
-    while i > 0 {
-        i -= 1;
+    for i in (0..k).rev() {
         out[at + i] = b'0' + (rest % 10) as u8;
         rest /= 10;
     }

@@ -25,12 +25,5 @@ pub fn put_bytes(w: u64, at: usize, out: &mut [u8])
     requires { at + 8 ≤ length out.old }
     ensures { out.new ≡ over at (bytes_of 8 w) out.old }
 {
-    out[at] = (w % 0x100) as u8;
-    out[at + 1] = (w / 0x100 % 0x100) as u8;
-    out[at + 2] = (w / 0x1_0000 % 0x100) as u8;
-    out[at + 3] = (w / 0x100_0000 % 0x100) as u8;
-    out[at + 4] = (w / 0x1_0000_0000 % 0x100) as u8;
-    out[at + 5] = (w / 0x100_0000_0000 % 0x100) as u8;
-    out[at + 6] = (w / 0x1_0000_0000_0000 % 0x100) as u8;
-    out[at + 7] = (w / 0x100_0000_0000_0000 % 0x100) as u8;
+    out[at..at + 8].copy_from_slice(&w.to_le_bytes());
 }

@@ -1,47 +1,41 @@
--- `sixteen` is `read_hex` where sixteen bytes are there.
-use mathlib.Core.Path.{◌≡◌, sym, ◌∙◌, ap}
-use Prim.Native.Nat.{ℕ, ◌<◌}
-use native.Mathlib.Omega.{arith}
-use mathlib.Core.Bool.{true}
-use borrow.Author.Rules.{rules}
-use Rattle.lines.specs.Read.{are_digits, value_of}
-use Rattle.lines.proofs.Values.{bad_digit, good_digit, next_value, one_larger, small, is_hex, not_hex, first_digits, no_digit_left, whole_value}
+-- `sixteen` is `number_of`, digit after digit.
+use Rattle.std.proofs.Common.{◌≡◌, refl, sym, ◌∙◌, None, Some, ◌<◌, length, arith}
+use Rattle.std.proofs.Math.ListN.{get_or}
+use Rattle.lines.specs.Read.{digit_of, value_of}
+use Rattle.lines.proofs.Values.{same_digit, bad_digit, good_digit, next_value, one_larger, small, no_number, whole_number}
 use Rattle.lines.proofs.reading.sixteen.Goals as goal
 
-pub loop-i-init : goal.loop-i-init
+pub loop-b-init : goal.loop-b-init
 unfolding value_of
-loop-i-init c =
-    let args = c.args in
-    let e = first_digits args.text.now args.at in
-    (search rules, search rules, ap are_digits e, ap value_of (sym e))
+loop-b-init c = record { fits = omega arith; good = refl; worth = refl }
 
-pub returns-then-d-gt15 : goal.returns-then-d-gt15
-returns-then-d-gt15 c =
-    let args = c.args in
-    sym (not_hex args.text.now args.at c.requires (c.loop-i.invariant.2 ∙ bad_digit args.text.now args.at c.loop-i.i c.digit_of-d.result (omega arith) c.requires c.digit_of-d.ensures c.if-d-gt15.true))
+pub returns-in_err-d : goal.returns-in_err-d
+returns-in_err-d c =
+    let bytes = c.args.digits.now in
+    let i = c.loop-b.b-index in
+    let e : digit_of (get_or bytes i 0) ≡ None = cc (same_digit c.from.result c.to_digit.result c.to_digit.ensures.value, c.in_err-d.was) in
+    c.from_residual.ensures ∙ sym (no_number bytes (c.loop-b.invariant.good ∙ bad_digit bytes i (omega arith) e))
 
 pub overflow_mul-value : goal.overflow_mul-value
-overflow_mul-value c = omega (arith, small c.loop-i.value c.loop-i.i c.loop-i.invariant.1 (omega arith))
+overflow_mul-value c = omega (arith, small c.loop-b.value c.loop-b.b-index c.loop-b.invariant.fits (omega arith))
 
 pub overflow_add-value : goal.overflow_add-value
-overflow_add-value c = omega (arith, small c.loop-i.value c.loop-i.i c.loop-i.invariant.1 (omega arith))
+overflow_add-value c = omega (arith, small c.loop-b.value c.loop-b.b-index c.loop-b.invariant.fits (omega arith), c.in_ok-d.ensures.value)
 
-pub loop-i-preserved : goal.loop-i-preserved
-loop-i-preserved c =
-    let args = c.args in
-    let text = args.text.now in
-    let d = c.digit_of-d.result in
-    let h : c.loop-i.i < 16 = omega arith in (
-      search rules,
-      one_larger c.loop-i.value d c.loop-i.i c.loop-i.invariant.1 c.if-d-gt15.false,
-      c.loop-i.invariant.2 ∙ good_digit text args.at c.loop-i.i d h c.requires c.digit_of-d.ensures c.if-d-gt15.false,
-      next_value text args.at c.loop-i.i d h c.requires c.digit_of-d.ensures c.loop-i.value ∙ c.loop-i.invariant.3,
-    )
+pub loop-b-preserved : goal.loop-b-preserved
+loop-b-preserved c =
+    let bytes = c.args.digits.now in
+    let i = c.loop-b.b-index in
+    let d = c.from-in-loop-b.result in
+    let v = c.loop-b.value in
+    let h : i < length bytes = omega arith in
+    let b : d < 16 = omega (arith, c.in_ok-d.ensures.value) in
+    let e : digit_of (get_or bytes i 0) ≡ Some d = cc (same_digit c.from.result c.to_digit.result c.to_digit.ensures.value, c.in_ok-d.was) in
+    record {
+      fits = one_larger v d i c.loop-b.invariant.fits b;
+      good = c.loop-b.invariant.good ∙ good_digit bytes i h d e;
+      worth = sym (next_value bytes i h d v e) ∙ c.loop-b.invariant.worth;
+    }
 
 pub returns : goal.returns
-returns c =
-    let args = c.args in
-    let text = args.text.now in
-    let e : c.loop-i.i ≡ 16 = omega arith in
-    let v = whole_value text args.at c.loop-i.i c.loop-i.value e ∙ c.loop-i.invariant.3 in
-    sym (is_hex text args.at c.requires (c.loop-i.invariant.2 ∙ no_digit_left text args.at c.loop-i.i e) ∙ ap (λ (x : ℕ). record { ok = true; value = x }) (sym v))
+returns c = sym (whole_number c.args.digits.now c.loop-b.b-index c.loop-b.value (omega arith) c.loop-b.invariant.good c.loop-b.invariant.worth)

@@ -1,16 +1,12 @@
--- `sixteen` is `read_hex` where sixteen bytes are there.
-use mathlib.Core.Path.{◌≡◌}
-use Prim.Native.Nat.{◌+◌, ◌-◌, ◌^◌, ◌≤◌, ◌<◌}
-use lib.ListN.{take, drop}
-use Rattle.lines.specs.Read.{are_digits, value_from, value_of, sixteen_from}
+-- `sixteen` is `number_of`, digit after digit.
+use Rattle.std.proofs.Common.{◌≡◌, ◌^◌, ◌<◌, drop}
+use Rattle.lines.specs.Read.{are_digits, value_from, value_of}
 use Rattle.lines.proofs.reading.sixteen.Given as goal
 
-abbrev pub invariant-loop-i : goal.invariant-loop-i
-invariant-loop-i l =
-    (l.i ≤ 16)
-    × (l.value < 16 ^ l.i)
-    × (are_digits (sixteen_from l.at l.text) ≡ are_digits (take (16 - l.i) (drop (l.at + l.i) l.text)))
-    × (value_from l.value (take (16 - l.i) (drop (l.at + l.i) l.text)) ≡ value_of (sixteen_from l.at l.text))
-
-abbrev pub decreases-loop-i : goal.decreases-loop-i
-decreases-loop-i l = 16 - l.i
+abbrev pub invariant-loop-b : goal.invariant-loop-b
+invariant-loop-b l =
+    record {
+      fits : l.value < 16 ^ l.b-index;
+      good : are_digits l.digits ≡ are_digits (drop l.b-index l.digits);
+      worth : value_from l.value (drop l.b-index l.digits) ≡ value_of l.digits;
+    }

@@ -1,29 +1,13 @@
 -- `put_bytes` puts the bytes of a word, one beside another.
-use native.Mathlib.Omega.{arith}
-use lib.ListN.{length-set}
+use Rattle.std.proofs.Common.{◌∙◌, refl}
+use Rattle.lines.specs.Words.{bytes_of}
+use Rattle.lines.proofs.Over.{over_middle}
 use Rattle.lines.proofs.Fields.{eight_bytes}
 use Rattle.lines.proofs.word.put_bytes.Goals as goal
 
-pub bounds-out-at-2 : goal.bounds-out-at-2
-bounds-out-at-2 c = simp length-set (omega arith)
-
-pub bounds-out-at-3 : goal.bounds-out-at-3
-bounds-out-at-3 c = simp length-set (omega arith)
-
-pub bounds-out-at-4 : goal.bounds-out-at-4
-bounds-out-at-4 c = simp length-set (omega arith)
-
-pub bounds-out-at-5 : goal.bounds-out-at-5
-bounds-out-at-5 c = simp length-set (omega arith)
-
-pub bounds-out-at-6 : goal.bounds-out-at-6
-bounds-out-at-6 c = simp length-set (omega arith)
-
-pub bounds-out-at-7 : goal.bounds-out-at-7
-bounds-out-at-7 c = simp length-set (omega arith)
-
-pub bounds-out-at-8 : goal.bounds-out-at-8
-bounds-out-at-8 c = simp length-set (omega arith)
-
 pub returns : goal.returns
-returns c = let args = c.args in eight_bytes args.w args.at args.out.now
+unfolding bytes_of
+returns c =
+    let args = c.args in
+    over_middle args.at 8 (bytes_of 8 args.w) c.copy_from_slice.new.self args.out.now
+    (c.copy_from_slice.ensures.after ∙ c.to_le_bytes.ensures ∙ eight_bytes args.w) refl c.requires
