@@ -3,7 +3,6 @@
 ghost use Rattle.std.specs.Prelude.{◌≡◌};
 ghost use Rattle.stored.specs.Layout.{nothing_used, up_to_epoch, uses_of, place_used, acceleration_used, triple_used, used};
 
-use run::waiting;
 use run::waiting::Waiting;
 
 // What is used at a waiting point. Of the nine points' places those from `from` to `last`; of the accelerations those from `since` to
@@ -56,6 +55,7 @@ fn up_to_epoch(i: u8) -> u8
 }
 
 // The table, a line for each waiting point.
+#[tactic(auto, unfolding(crate::specs::Layout::line, crate::specs::Layout::nothing_used, crate::specs::Layout::uses_of))]
 pub fn uses_of(w: Waiting) -> Uses
     ensures { result ≡ uses_of w }
 {
@@ -123,8 +123,7 @@ pub fn uses_of(w: Waiting) -> Uses
             trial: true,
             ..none
         },
-        Waiting::Ended => none,
-        Waiting::Unknown => none,
+        Waiting::Ended | Waiting::Unknown => none,
     }
 }
 
