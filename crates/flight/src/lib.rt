@@ -59,6 +59,7 @@ fn land(run: Run, next: u64, ending: u64) -> Flight
 }
 
 // A flight after a call.
+#[tactic(auto, unfolding(crate::specs::Flight::flight_of, crate::specs::Flight::flight_by))]
 fn flight_of(next: u64, x: Answered) -> Flight
     ensures { result ≡ flight_of next x }
 {
