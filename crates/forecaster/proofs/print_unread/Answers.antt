@@ -1,5 +1,5 @@
 -- `print_unread` prints what `unread_piece` says.
-use mathlib.Core.Path.{refl}
+use mathlib.Core.Path.{refl, ◌∙◌}
 use native.Mathlib.Omega.{arith}
 use mathlib.Core.List.{[]}
 use Rattle.lines.specs.Put.{over}
@@ -11,7 +11,7 @@ pub returns : goal.returns
 unfolding unread_piece over
 returns c =
     let told = c.put_refusal-count.ensures in
-    let number = c.number_of-number.ensures in
+    let number = c.from-number.ensures ∙ c.from.ensures in
     let out = c.args.out.now in
     let more = refusal_more _ [] out out _ 0 _ refl (omega arith) refl c.requires told.value told.out_after in
     rw (← number) (refl, more.0, more.1)
