@@ -1,35 +1,34 @@
--- What a call gave and printed is a piece.
-use mathlib.Core.Path.{◌≡◌, sym, ap, ap₂, ◌∙◌}
+-- What a call gave and printed is a piece of its flight.
+use mathlib.Core.Path.{◌≡◌, ap, ap₂, ◌∙◌}
 use Prim.Native.Nat.{ℕ, ◌-◌}
-use mathlib.Core.Bool.{true, false, not, cond}
-use mathlib.Core.List.{List, [], ◌++◌}
-use lib.Dec.{leb}
+use mathlib.Core.List.{List, ◌++◌}
 use lib.ListN.{length}
 use lib.Ieee.{Float}
 use Rattle.lines.specs.Put.{over}
 use Rattle.flight.specs.declared.Flight.{Flight}
-use Rattle.flight.specs.Flight.{flown_on}
+use Rattle.flight.specs.Flight.{ending, flown_on}
 use Rattle.flight.specs.Told.{read_from, handed_out}
 use Rattle.forecaster.specs.declared.Forecast.{Forecast}
 use Rattle.forecaster.specs.Printed.{entry_lines, ending_line}
-use Rattle.forecaster.specs.Pieces.{Piece, blank_room, longest_piece, flown_piece, piece_of, piece_in}
+use Rattle.forecaster.specs.Pieces.{Piece, blank_room, forecast_of, flown_piece}
 
-module _ (f : Forecast) (g : Flight) (numbers : List Float) (before : List ℕ) where
+module _ (f g : Flight) (numbers : List Float) (before : List ℕ) where
   abbrev bytes : Flight → List Float → List ℕ
-  bytes h l = entry_lines (read_from (h.next - f.flight.next) 0 f.flight.next l) ++ cond h.asks [] (ending_line h.ending)
+  bytes h l = entry_lines (read_from (h.next - f.next) 0 f.next l) ++ ending_line (ending h)
 
   abbrev given : Flight → List Float → Piece
-  given h l = record { forecast = record { reads = true; over = not h.asks; flight = h }; bytes = bytes h l }
+  given h l = record { forecast = forecast_of h; bytes = bytes h l }
 
-  piece_is : leb longest_piece (length before) ≡ true → f.over ≡ false → f.reads ≡ true
-      → g ≡ (flown_on f.flight blank_room).flight → numbers ≡ (flown_on f.flight blank_room).out → piece_in f (length before) ≡ given g numbers
-  unfolding piece_in piece_of flown_piece handed_out
-  piece_is l o r d e = rw (l, o, r) (sym (ap₂ given d e))
+  abbrev piece : Piece
+  piece = flown_piece f (flown_on f blank_room)
 
-  pub told_piece : (x : Forecast) (count : ℕ) (after : List ℕ) → leb longest_piece (length before) ≡ true → f.over ≡ false → f.reads ≡ true
-      → g ≡ (flown_on f.flight blank_room).flight → numbers ≡ (flown_on f.flight blank_room).out
-      → x ≡ record { reads = true; over = not g.asks; flight = g } → count ≡ length (bytes g numbers) → after ≡ over 0 (bytes g numbers) before
-      → (x ≡ (piece_in f (length before)).forecast) × (count ≡ length (piece_in f (length before)).bytes) × (after ≡ over 0 (piece_in f (length before)).bytes before)
-  told_piece x count after l o r d e u v w =
-      let z = sym (piece_is l o r d e) in
+  piece_is : g ≡ (flown_on f blank_room).flight → numbers ≡ (flown_on f blank_room).out → given g numbers ≡ piece
+  unfolding flown_piece handed_out
+  piece_is d e = ap₂ given d e
+
+  pub told_piece : (x : Forecast) (count : ℕ) (after : List ℕ) → g ≡ (flown_on f blank_room).flight → numbers ≡ (flown_on f blank_room).out
+      → x ≡ forecast_of g → count ≡ length (bytes g numbers) → after ≡ over 0 (bytes g numbers) before
+      → (x ≡ piece.forecast) × (count ≡ length piece.bytes) × (after ≡ over 0 piece.bytes before)
+  told_piece x count after d e u v w =
+      let z = piece_is d e in
       (u ∙ ap (λ (p : Piece). p.forecast) z, v ∙ ap (λ (p : Piece). length p.bytes) z, w ∙ ap (λ (p : Piece). over 0 p.bytes before) z)

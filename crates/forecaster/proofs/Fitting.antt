@@ -7,17 +7,20 @@ use mathlib.Core.List.{List}
 use lib.Dec.{ltb}
 use lib.ListN.{length}
 use lib.Ieee.{Float}
+use Rattle.std.specs.Prelude.{Option, Some, None}
+use Rattle.triple.specs.declared.Triple.{Triple}
 use borrow.Author.Tests.{ltb-true, ltb-false}
 use Rattle.run.specs.Samples.{Room, tens, numbers_of}
 use Rattle.run.proofs.Placing.{placed_is, length_put}
-use Rattle.gauss_jackson.specs.Answers.{answered}
+use Rattle.gauss_jackson.specs.declared.Question.{Question}
 use Rattle.gauss_jackson.proofs.Stores.{stored_is_written}
 use Rattle.point_mass.specs.Force.{pull_at}
 use Rattle.flight.specs.declared.Flight.{Flight}
-use Rattle.flight.specs.Flight.{Flown, landed, flight_of, flown_after, answered_by, answered_once, beyond, is_ready, flown_by, piece, flown_on}
+use Rattle.flight.specs.declared.Phase.{Phase}
+use Rattle.flight.specs.declared.Phase.TheVariants.{Asks, Over}
+use Rattle.flight.specs.Flight.{asks, Flown, flight_of, flown_after, answered_by, pulled_by, answered_in, answered_once, beyond, is_ready, flown_by, piece, flown_on}
 use Rattle.flight.proofs.Stored.{stored_few}
 use Rattle.flight.proofs.Pieces.{ready_is}
-use Rattle.flight.proofs.Tales.{shows}
 
 -- by one answer
 record Once (f : Flight) (numbers : List Float) (g : Flown) : Type 0 where
@@ -25,25 +28,26 @@ record Once (f : Flight) (numbers : List Float) (g : Flown) : Type 0 where
   few : g.flight.next ≤ f.next + 5
   same : length g.out ≡ length numbers
 
-once : (from : ℕ) (f : Flight) (numbers : List Float) → Once f numbers (answered_once from f numbers)
-unfolding answered_once answered_by flown_after flight_of landed
-once from f numbers = go (pull_at f.question.r).low
-  where
-    by : Flown
-    by = answered_by (pull_at f.question.r).a from f numbers
+once_pulled : (q : Question) (x : Option Triple) (from : ℕ) (f : Flight) (numbers : List Float) → Once f numbers (pulled_by q x from f numbers)
+unfolding pulled_by answered_by flown_after flight_of
+once_pulled q None from f numbers = record { forth = omega arith; few = omega arith; same = refl }
+once_pulled q (Some a) from f numbers =
+    let w = stored_is_written f.run q.number a (tens from numbers) in
+    let s = stored_few f.run q.number a (tens from numbers) in
+    record {
+      forth = omega arith;
+      few = omega arith;
+      same = ap (λ (r : Room). length (numbers_of r)) w.written ∙ length_put w.samples w.first from numbers;
+    }
 
-    go : (d : Bool) → Once f numbers (cond d (record { flight = landed f.run f.next 15; out = numbers }) by)
-    go true = record { forth = omega arith; few = omega arith; same = refl }
-    go false =
-        let x = answered f.run f.question.number (pull_at f.question.r).a (tens from numbers) in
-        let n = (shows x.got.run (f.next + x.got.stored) x.got.outcome).next_is in
-        let w = stored_is_written f.run f.question.number (pull_at f.question.r).a (tens from numbers) in
-        let s = stored_few f.run f.question.number (pull_at f.question.r).a (tens from numbers) in
-        record {
-          forth = omega arith;
-          few = omega arith;
-          same = ap (λ (r : Room). length (numbers_of r)) w.written ∙ length_put w.samples w.first from numbers;
-        }
+once_in : (h : Phase) (from : ℕ) (f : Flight) (numbers : List Float) → Once f numbers (answered_in h from f numbers)
+unfolding answered_in
+once_in (Asks q) from f numbers = once_pulled q (pull_at q.r) from f numbers
+once_in (Over e) from f numbers = record { forth = omega arith; few = omega arith; same = refl }
+
+once : (from : ℕ) (f : Flight) (numbers : List Float) → Once f numbers (answered_once from f numbers)
+unfolding answered_once
+once from f numbers = once_in f.phase from f numbers
 
 -- by a piece
 pub record StaysWithin (from : ℕ) (f : Flight) (numbers : List Float) (g : Flown) : Type 0 where
@@ -62,10 +66,10 @@ nearer m n h k f = go (ltb m n) refl
     go true e = f (ltb-true m n e)
     go false e = let z : n ≤ m = ltb-false m n e in omega arith
 
-one_more : (left : ℕ) → Goes left → (from : ℕ) (f : Flight) (numbers : List Float) → is_ready f.asks from f.next (length numbers) ≡ true
+one_more : (left : ℕ) → Goes left → (from : ℕ) (f : Flight) (numbers : List Float) → is_ready (asks f) from f.next (length numbers) ≡ true
     → StaysWithin from f numbers (flown_by left from (answered_once from f numbers).flight (answered_once from f numbers).out)
 one_more left rest from f numbers e =
-    let r = ready_is f.asks from f.next (length numbers) e in
+    let r = ready_is (asks f) from f.next (length numbers) e in
     let p = placed_is from f.next 5 (length numbers) r.1 in
     let one = once from f numbers in
     let a = one.forth in
@@ -87,12 +91,12 @@ one_more left rest from f numbers e =
 within : (left : ℕ) → Goes left
 unfolding flown_by
 within zero from f numbers h k = record { forth = omega arith; placed = k; near = λ z. omega arith; same = refl }
-within (suc left) from f numbers h k = go (is_ready f.asks from f.next (length numbers)) refl (one_more left (within left) from f numbers)
+within (suc left) from f numbers h k = go (is_ready (asks f) from f.next (length numbers)) refl (one_more left (within left) from f numbers)
   where
     on : Flown
     on = flown_by left from (answered_once from f numbers).flight (answered_once from f numbers).out
 
-    go : (d : Bool) → is_ready f.asks from f.next (length numbers) ≡ d → (is_ready f.asks from f.next (length numbers) ≡ true → StaysWithin from f numbers on)
+    go : (d : Bool) → is_ready (asks f) from f.next (length numbers) ≡ d → (is_ready (asks f) from f.next (length numbers) ≡ true → StaysWithin from f numbers on)
         → StaysWithin from f numbers (cond d on (record { flight = f; out = numbers }))
     go true e w = w e
     go false e w = record { forth = omega arith; placed = k; near = λ z. omega arith; same = refl }

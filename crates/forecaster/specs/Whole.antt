@@ -3,7 +3,7 @@ use Rattle.std.specs.Prelude.{◌≡◌, ℕ, zero, suc, ◌≤◌, true, List, 
 use Rattle.run.specs.Limits.{ample}
 use Rattle.forecaster.specs.declared.Forecast.{Forecast}
 use Rattle.forecaster.specs.Printed.{printed}
-use Rattle.forecaster.specs.Pieces.{begun, piece_of}
+use Rattle.forecaster.specs.Pieces.{is_over, begun, piece_of}
 
 -- after k pieces, and what they printed
 unfoldable pub forecast_after : (k : ℕ) → Forecast → Forecast
@@ -19,6 +19,6 @@ pub record PrintsAll (text : List ℕ) : Type 0 where
   -- what was printed so far begins the whole
   pub so_far : (k : ℕ) → (rest : List ℕ) × (printed_after k (begun text) ++ rest ≡ printed text)
   -- once the forecast is over it is the whole
-  pub all : (k : ℕ) → (forecast_after k (begun text)).over ≡ true → printed_after k (begun text) ≡ printed text
+  pub all : (k : ℕ) → is_over (forecast_after k (begun text)) ≡ true → printed_after k (begun text) ≡ printed text
   -- and it is over in the end: `ample` is above every count of answers
-  pub ends : (k : ℕ) → ample ≤ k → (forecast_after k (begun text)).over ≡ true
+  pub ends : (k : ℕ) → ample ≤ k → is_over (forecast_after k (begun text)) ≡ true

@@ -6,9 +6,10 @@
 ghost use Rattle.std.specs.Prelude.{◌≡◌, ◌≤◌, length};
 ghost use Rattle.lines.specs.Put.{over as put_over};
 ghost use Rattle.forecaster.specs.Printed.{settings_with};
-ghost use Rattle.forecaster.specs.Pieces.{longest_piece, begun_with, begun, unread_piece, piece_in};
+ghost use Rattle.flight.specs.Flight.{flown_on};
+ghost use Rattle.forecaster.specs.Pieces.{is_over, longest_piece, begun_with, begun, blank_room, forecast_of, flown_piece, unread_piece, piece_in};
 
-use flight::Flight;
+use flight::{Flight, Phase};
 use plan::Settings;
 use refusals::Refusal;
 use triple::Triple;
@@ -21,12 +22,21 @@ const ROOM: usize = 640;
 // The bytes of the longest piece: 64 lines of 191, and a refusal's.
 pub const LONGEST: usize = 12245;
 
-// A forecast on its way: whether its input could be read, whether all of it is printed, and the flight.
+// A forecast on its way: of an input that can't be read, which is still to be told; of one whose flight goes on; or all of it is printed.
 #[derive(Clone, Copy)]
-pub struct Forecast {
-    pub reads: bool,
-    pub over: bool,
-    pub flight: Flight,
+pub enum Forecast {
+    Unread,
+    Flying(Flight),
+    Over,
+}
+
+impl Forecast {
+    // Whether all of it is printed.
+    pub fn is_over(&self) -> bool
+        ensures { result ≡ is_over self.now }
+    {
+        matches!(self, Forecast::Over)
+    }
 }
 
 // What a piece printed: so many bytes, and the forecast to go on with.
@@ -40,14 +50,15 @@ pub struct Printed {
 fn settings_with(h: f64) -> Settings
     ensures { result ≡ settings_with h }
 {
-    let mut settings = gauss_jackson::default_settings();
-    settings.h = h;
-    settings.samples = 1;
-    settings
+    Settings {
+        h,
+        samples: 1,
+        ..gauss_jackson::default_settings()
+    }
 }
 
-fn begin_with(reads: bool, numbers: [u64; 9]) -> Forecast
-    ensures { result ≡ begun_with reads numbers }
+fn begin_with(numbers: [u64; 9]) -> Forecast
+    ensures { result ≡ begun_with numbers }
 {
     let r = Triple {
         x: bits::float_of(numbers[3]),
@@ -62,12 +73,7 @@ fn begin_with(reads: bool, numbers: [u64; 9]) -> Forecast
     let t0 = bits::float_of(numbers[0]);
     let tf = bits::float_of(numbers[1]);
     let settings = settings_with(bits::float_of(numbers[2]));
-    let flight = flight::take_off(settings, t0, tf, r, v);
-    Forecast {
-        reads,
-        over: false,
-        flight,
-    }
+    Forecast::Flying(flight::take_off(settings, t0, tf, r, v))
 }
 
 // The forecast of an input; one that can't be read prints 19.
@@ -75,23 +81,47 @@ pub fn begin(text: &[u8]) -> Forecast
     ensures { result ≡ begun text.now }
 {
     match lines::read_nine(text) {
-        Some(numbers) => begin_with(true, numbers),
-        None => begin_with(false, [0; 9]),
+        Some(numbers) => begin_with(numbers),
+        None => Forecast::Unread,
     }
 }
 
 // All that is printed of an input that can't be read.
-fn print_unread(flight: Flight, out: &mut [u8]) -> Printed
+fn print_unread(out: &mut [u8]) -> Printed
     requires { longest_piece ≤ length out.old }
-    ensures { (result.forecast ≡ (unread_piece flight).forecast) × (result.count ≡ length (unread_piece flight).bytes) × (out.new ≡ put_over 0 (unread_piece flight).bytes out.old) }
+    ensures { (result.forecast ≡ unread_piece.forecast) × (result.count ≡ length unread_piece.bytes) × (out.new ≡ put_over 0 unread_piece.bytes out.old) }
 {
     let number = u64::from(u8::from(Refusal::InputLine));
     let count = lines::put_refusal(number, 0, out);
-    let forecast = Forecast {
-        reads: false,
-        over: true,
-        flight,
-    };
+    Printed {
+        forecast: Forecast::Over,
+        count,
+    }
+}
+
+// The forecast of a flight that told a piece.
+fn forecast_of(flight: Flight) -> Forecast
+    ensures { result ≡ forecast_of flight }
+{
+    match flight.phase {
+        Phase::Asks(_question) => Forecast::Flying(flight),
+        Phase::Over(_ending) => Forecast::Over,
+    }
+}
+
+// A piece of a flight.
+fn print_flown(before: Flight, out: &mut [u8]) -> Printed
+    requires { longest_piece ≤ length out.old }
+    ensures { (result.forecast ≡ (flown_piece before (flown_on before blank_room)).forecast)
+        × (result.count ≡ length (flown_piece before (flown_on before blank_room)).bytes)
+        × (out.new ≡ put_over 0 (flown_piece before (flown_on before blank_room)).bytes out.old) }
+{
+    let from = before.next;
+    let mut room = [0.0f64; ROOM];
+    let after = flight::fly_on(before, &mut room);
+    let told = after.next - from;
+    let count = rows::put_told(from, told, after.phase, &room, out);
+    let forecast = forecast_of(after);
     Printed { forecast, count }
 }
 
@@ -104,25 +134,9 @@ pub fn print_on(forecast: Forecast, out: &mut [u8]) -> Printed
     if out.len() < LONGEST {
         return Printed { forecast, count: 0 };
     }
-    if forecast.over {
-        return Printed { forecast, count: 0 };
-    }
-    let before = forecast.flight;
-    if !forecast.reads {
-        return print_unread(before, out);
-    }
-    let from = before.next;
-    let mut room = [0.0f64; ROOM];
-    let after = flight::fly_on(before, &mut room);
-    let told = after.next - from;
-    let count = rows::put_told(from, told, after.asks, after.ending, &room, out);
-    let next = Forecast {
-        reads: true,
-        over: !after.asks,
-        flight: after,
-    };
-    Printed {
-        forecast: next,
-        count,
+    match forecast {
+        Forecast::Unread => print_unread(out),
+        Forecast::Flying(flight) => print_flown(flight, out),
+        Forecast::Over => Printed { forecast, count: 0 },
     }
 }

@@ -1,9 +1,12 @@
 // SPDX-License-Identifier: MIT OR Apache-2.0
 // What a flight told, in lines, into bytes that have room for the longest piece.
-ghost use Rattle.std.specs.Prelude.{◌≡◌, cond, [], ◌++◌, ◌+◌, ◌*◌, ◌^◌, ◌≤◌, ◌<◌, length};
+ghost use Rattle.std.specs.Prelude.{◌≡◌, ◌++◌, ◌+◌, ◌*◌, ◌^◌, ◌≤◌, ◌<◌, length};
 ghost use Rattle.lines.specs.Put.{over};
+ghost use Rattle.flight.specs.Flight.{ending_in};
 ghost use Rattle.flight.specs.Told.{read_from};
 ghost use Rattle.forecaster.specs.Printed.{entry_lines, ending_line};
+
+use flight::Phase;
 
 // The lines of so many samples of a room, the first of them sample `from`; the place after them.
 fn put_entries(from: u64, count: u64, room: &[f64], out: &mut [u8]) -> usize
@@ -11,34 +14,26 @@ fn put_entries(from: u64, count: u64, room: &[f64], out: &mut [u8]) -> usize
     ensures value { (result ≡ length (entry_lines (read_from count 0 from room.now))) × (result ≤ 12224) }
     ensures out_after { out.new ≡ over 0 (entry_lines (read_from count 0 from room.now)) out.old }
 {
-    let mut i = 0u64;
     let mut at = 0usize;
-    while i < count {
+    for i in 0..count {
         at = lines::put_line(from + i, room, 10 * (i as usize), at, out);
-        i += 1;
     }
     at
 }
 
 // The same, and behind them the number of the refusal that ended the flight, if one did.
-pub fn put_told(
-    from: u64,
-    count: u64,
-    asks: bool,
-    ending: u64,
-    room: &[f64],
-    out: &mut [u8],
-) -> usize
+pub fn put_told(from: u64, count: u64, phase: Phase, room: &[f64], out: &mut [u8]) -> usize
     requires { (0 < count → from + count < 2 ^ 64) × (count ≤ 64) × (10 * count ≤ length room.now) × (12245 ≤ length out.old) }
-    ensures value { result ≡ length (entry_lines (read_from count 0 from room.now) ++ cond asks [] (ending_line ending)) }
-    ensures out_after { out.new ≡ over 0 (entry_lines (read_from count 0 from room.now) ++ cond asks [] (ending_line ending)) out.old }
+    ensures value { result ≡ length (entry_lines (read_from count 0 from room.now) ++ ending_line (ending_in phase)) }
+    ensures out_after { out.new ≡ over 0 (entry_lines (read_from count 0 from room.now) ++ ending_line (ending_in phase)) out.old }
 {
     let at = put_entries(from, count, room, out);
-    if asks {
-        return at;
+    match phase {
+        Phase::Asks(_question) => at,
+        Phase::Over(Ok(())) => at,
+        Phase::Over(Err(refusal)) => {
+            let number = refusals::number_of(refusal) as u64;
+            lines::put_refusal(number, at, out)
+        },
     }
-    if ending == 0 {
-        return at;
-    }
-    lines::put_refusal(ending, at, out)
 }

@@ -9,4 +9,4 @@ returns-in-Some c = c.begin_with.ensures ∙ sym (ap begun_of (sym c.read_nine.e
 
 pub returns-in-None : goal.returns-in-None
 unfolding begun begun_of
-returns-in-None c = c.begin_with-in-None.ensures ∙ sym (ap begun_of (sym c.read_nine.ensures ∙ c.in-None.is))
+returns-in-None c = sym (ap begun_of (sym c.read_nine.ensures ∙ c.in-None.is))

@@ -4,4 +4,4 @@ use Rattle.forecaster.proofs.settings_with.Goals as goal
 
 pub returns : goal.returns
 unfolding settings_with
-returns c = simp c.default_settings-settings.ensures
+returns c = simp c.default_settings.ensures

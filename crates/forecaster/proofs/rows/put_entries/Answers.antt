@@ -45,9 +45,3 @@ overflow_add-from c = omega (arith, c.requires.0 (omega (arith, c.loop-i-test.tr
 
 pub overflow_mul-i : goal.overflow_mul-i
 overflow_mul-i c = omega arith
-
-pub overflow_add-i : goal.overflow_add-i
-overflow_add-i c = omega arith
-
-pub loop-i-smaller : goal.loop-i-smaller
-loop-i-smaller c = omega arith

@@ -12,6 +12,3 @@ invariant-loop-i l =
     (l.i ≤ l.count) × (l.at ≤ 191 * l.i) × (length l.out ≡ length l.initial.out)
     × (over l.at (entry_lines (read_from (l.count - l.i) l.i (l.from + l.i) l.room)) l.out ≡ over 0 (entry_lines (read_from l.count 0 l.from l.room)) l.initial.out)
     × (l.at + length (entry_lines (read_from (l.count - l.i) l.i (l.from + l.i) l.room)) ≡ length (entry_lines (read_from l.count 0 l.from l.room)))
-
-abbrev pub decreases-loop-i : goal.decreases-loop-i
-decreases-loop-i l = l.count - l.i
