@@ -48,7 +48,7 @@ fn phase_of(outcome: Outcome) -> Phase
 }
 
 // A flight after a call.
-#[tactic(auto, unfolding(crate::specs::Flight::flight_of, crate::specs::Flight::flight_by))]
+#[tactic(auto, unfolding(crate::specs::Flight::flight_of))]
 fn flight_of(next: u64, x: Answered) -> Flight
     ensures { result ≡ flight_of next x }
 {

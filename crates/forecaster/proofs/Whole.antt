@@ -28,7 +28,7 @@ use Rattle.forecaster.specs.declared.Forecast.TheVariants.{Unread, Flying, Over}
 use Rattle.forecaster.specs.Printed.{ten_of, entry_lines, ending_line, story_lines, float_at, triple_at, settings_with, story_for, printed_of, printed}
 use Rattle.forecaster.specs.Pieces.{is_over, Piece, blank_room, begun_with, begun_of, begun, forecast_of, flown_piece, piece_of}
 use Rattle.forecaster.specs.Whole.{forecast_after, printed_after, PrintsAll}
-use Rattle.forecaster.proofs.Unread.{unread, over_still, unread_so_far, unread_all, unread_ends}
+use Rattle.forecaster.proofs.Unread.{over_still, unread_so_far, unread_all, unread_ends}
 
 -- ---- lines one after the other
 lines_more : (xs ys : List Entry) → entry_lines (xs ++ ys) ≡ entry_lines xs ++ entry_lines ys

@@ -32,8 +32,8 @@ pub fn put_told(from: u64, count: u64, phase: Phase, room: &[f64], out: &mut [u8
         Phase::Asks(_question) => at,
         Phase::Over(Ok(())) => at,
         Phase::Over(Err(refusal)) => {
-            let number = refusals::number_of(refusal) as u64;
+            let number = u64::from(u8::from(refusal));
             lines::put_refusal(number, at, out)
-        },
+        }
     }
 }

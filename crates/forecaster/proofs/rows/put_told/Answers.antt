@@ -1,5 +1,5 @@
 -- `put_told` prints the samples, and behind them the ending.
-use mathlib.Core.Path.{◌≡◌, refl}
+use mathlib.Core.Path.{◌≡◌, refl, ◌∙◌}
 use Rattle.refusals.specs.declared.Refusal.{Refusal}
 use Rattle.refusals.specs.declared.Refusal.TheVariants.{StepNotFinite, MaxStepsExceeded, NoDenseOutput, InterpOutOfBounds, Setting, SampleRoom, NoQuestion, NotThatQuestion, Shape, StoredShape, StoredContent, BlankDate, NotWhole, TooFewSteps, TooLow, InputLine}
 use Rattle.refusals.specs.Numbers.{number_of}
@@ -49,4 +49,5 @@ returns-in-Over-Err c =
     let told = c.put_refusal.ensures in
     let x = refusal_more _ _ _ _ _ _ _ put.value.0 put.value.1 put.out_after c.requires.3 told.value told.out_after in
     let y = rw c.in-Over-Err.is at c.in-Over-Err.field-0-is in
-    rw (c.in-Over-Err.is, y, a_line c.in-Over-Err.refusal, ← c.number_of-number.ensures) (record { value = x.0; out_after = x.1 })
+    let number = c.from-number.ensures ∙ c.from.ensures in
+    rw (c.in-Over-Err.is, y, a_line c.in-Over-Err.refusal, ← number) (record { value = x.0; out_after = x.1 })
