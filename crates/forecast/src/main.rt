@@ -11,11 +11,15 @@ use std::io::{self, Read, Stdin, Stdout, Write};
 // One byte more than nine lines have: a text that fills it is too long to be an input.
 const TEXT: usize = 154;
 
+// More pieces than any forecast has.
+const TURNS: u64 = 0x1000_0000_0000;
+
 // So many bytes of the input, up to its end or as many as have place.
 fn read_full(input: &mut Stdin, text: &mut [u8]) -> io::Result<usize>
     ensures { IfOk result (λ n. n ≤ length text.old) }
 {
     let mut n = 0usize;
+    // A while, as in Rust: no iterator says where the next read begins, since each gives as many bytes as it likes.
     while n < text.len() {
         let got = input.read(&mut text[n..])?;
         if got == 0 {
@@ -30,13 +34,11 @@ fn read_full(input: &mut Stdin, text: &mut [u8]) -> io::Result<usize>
 fn print_piece(out: &mut Stdout, now: Forecast, bytes: &mut [u8]) -> io::Result<Forecast> {
     let printed = forecaster::print_on(now, bytes);
     let n = printed.count;
-    let mut next = printed.forecast;
-    if n <= bytes.len() {
-        out.write_all(&bytes[..n])?;
-    } else {
-        next.over = true;
+    if n > bytes.len() {
+        return Ok(Forecast::Over);
     }
-    Ok(next)
+    out.write_all(&bytes[..n])?;
+    Ok(printed.forecast)
 }
 
 fn main(rt: HostRuntime) -> io::Result<()> {
@@ -45,10 +47,11 @@ fn main(rt: HostRuntime) -> io::Result<()> {
     let mut now = forecaster::begin(&text[..n]);
     let mut out = rt.stdout();
     let mut bytes = [0u8; forecaster::LONGEST];
-    let mut turns: u64 = 0;
-    while !now.over && turns < 0x1000_0000_0000 {
+    for _ in 0..TURNS {
+        if now.is_over() {
+            break;
+        }
         now = print_piece(&mut out, now, &mut bytes)?;
-        turns += 1;
     }
     Ok(())
 }
