@@ -4,7 +4,7 @@ use mathlib.Core.Path.{◌≡◌}
 use mathlib.Core.Bool.{Bool, true, false}
 use mathlib.Core.List.{List}
 use native.Mathlib.Omega.{arith}
-use lib.Ieee.{Float, le}
+use lib.Ieee.{Float}
 use Rattle.intervals.specs.Table.{time_of}
 use Rattle.intervals.specs.Intervals.{reached, first_past, is_short, walk_on}
 
@@ -40,21 +40,3 @@ module _ (f : Bool) (l : List Float) (t : Float) (m n : ℕ) where
   pub walk_end : m ≤ n → walk_on f l t (m - n) n ≡ n
   unfolding walk_on
   walk_end h = rw (none_left m n h)
-
--- ---- the same, where it is known how the table runs; x is the time that was read
-module _ (l : List Float) (t : Float) (m n : ℕ) (x : Float) (h : n < m) (is : x ≡ time_of l n) where
-  pub later_on : le x t ≡ true → first_past true l t (m - n) n ≡ first_past true l t (m - (n + 1)) (n + 1)
-  unfolding first_past reached
-  later_on e = rw (one_left m n h, ← is, e)
-
-  pub later_here : le x t ≡ false → first_past true l t (m - n) n ≡ n
-  unfolding first_past reached
-  later_here e = rw (one_left m n h, ← is, e)
-
-  pub earlier_on : le t x ≡ true → first_past false l t (m - n) n ≡ first_past false l t (m - (n + 1)) (n + 1)
-  unfolding first_past reached
-  earlier_on e = rw (one_left m n h, ← is, e)
-
-  pub earlier_here : le t x ≡ false → first_past false l t (m - n) n ≡ n
-  unfolding first_past reached
-  earlier_here e = rw (one_left m n h, ← is, e)

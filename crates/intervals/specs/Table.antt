@@ -3,6 +3,7 @@ use Rattle.std.specs.Prelude.{ℕ, ◌+◌, ◌*◌, ◌/◌, cond, List, ltb, l
 use Rattle.std.specs.Float.{nan}
 use Rattle.triple.specs.declared.Triple.{Triple}
 use Rattle.triple.specs.declared.Sample.{Sample}
+use Rattle.triple.specs.Arithmetic.{thrice}
 use Rattle.triple.specs.Sampled.{sample_width}
 
 -- how many samples a table has
@@ -10,7 +11,7 @@ unfoldable pub count_of : List Float → ℕ
 count_of l = length l / sample_width
 
 -- the numbers at three places
-abbrev three : List Float → ℕ → ℕ → ℕ → Triple
+abbrev pub three : List Float → ℕ → ℕ → ℕ → Triple
 three l p q s = record { x = get_or l p nan; y = get_or l q nan; z = get_or l s nan }
 
 -- the ten numbers from place p on
@@ -24,7 +25,7 @@ ten l p =
     }
 
 abbrev pub nans : Triple
-nans = record { x = nan; y = nan; z = nan }
+nans = thrice nan
 
 unfoldable pub no_sample : Sample
 no_sample = record { t = nan; r = nans; v = nans; a = nans }

@@ -2,9 +2,9 @@
 // Which interval a time falls into. The two interpolations have rules of their own (01, "Between samples").
 #![tactic(auto)]
 
-ghost use Rattle.std.specs.Prelude.{◌≡◌, true, false, ◌-◌};
+ghost use Rattle.std.specs.Prelude.{◌≡◌, ◌-◌};
 ghost use Rattle.intervals.specs.Table.{count_of};
-ghost use Rattle.intervals.specs.Intervals.{is_forward, last_time, ends_of, is_short, first_past, interval_of, walked_to};
+ghost use Rattle.intervals.specs.Intervals.{is_forward, last_time, ends_of, reached, is_short, first_past, interval_of, walked_to};
 
 pub mod table;
 
@@ -18,7 +18,7 @@ pub struct Ends {
 fn last_time(samples: &[f64]) -> f64
     ensures { result ≡ last_time samples.now }
 {
-    table::time_of(samples, table::less(table::count_of(samples), 1))
+    table::time_of(samples, table::count_of(samples).saturating_sub(1))
 }
 
 fn is_forward(samples: &[f64]) -> bool
@@ -48,69 +48,45 @@ pub fn ends_of(samples: &[f64]) -> Ends
 fn last_interval(samples: &[f64]) -> usize
     ensures { result ≡ count_of samples.now - 2 }
 {
-    table::less(table::count_of(samples), 2)
+    table::count_of(samples).saturating_sub(2)
 }
 
+// Which samples lie before a single time, or at it.
+#[tactic(auto, unfolding(crate::specs::Intervals::reached))]
+fn is_reached(forward: bool, time: f64, t: f64) -> bool
+    ensures { result ≡ reached forward time t }
+{
+    if forward { time <= t } else { time >= t }
+}
+
+// Which samples a batch's time lies past.
+#[tactic(auto, unfolding(crate::specs::Intervals::is_short))]
 fn is_short(forward: bool, time: f64, t: f64) -> bool
     ensures { result ≡ is_short forward time t }
 {
-    if forward {
-        return time < t;
-    }
-    time > t
+    if forward { time < t } else { time > t }
 }
 
-// The first sample that is later than t, or the count where none is.
-fn first_later(samples: &[f64], t: f64) -> usize
-    ensures { result ≡ first_past true samples.now t (count_of samples.now) 0 }
-{
-    let count = table::count_of(samples);
-    let mut n = 0usize;
-    while n < count {
-        if !(table::time_of(samples, n) <= t) {
-            return n;
-        }
-        n += 1;
-    }
-    n
-}
-
-// The first sample that is earlier than t, or the count where none is.
-fn first_earlier(samples: &[f64], t: f64) -> usize
-    ensures { result ≡ first_past false samples.now t (count_of samples.now) 0 }
-{
-    let count = table::count_of(samples);
-    let mut n = 0usize;
-    while n < count {
-        if !(table::time_of(samples, n) >= t) {
-            return n;
-        }
-        n += 1;
-    }
-    n
-}
-
-// The first sample whose time fails the test, or the count where none does. One after the other, since a table may stand in any order.
+// The first sample that is not reached, or the count where all are. One after the other, since a table may stand in any order.
 fn first_past(forward: bool, samples: &[f64], t: f64) -> usize
     ensures { result ≡ first_past forward samples.now t (count_of samples.now) 0 }
 {
-    if forward {
-        return first_later(samples, t);
+    let count = table::count_of(samples);
+    for n in 0..count {
+        if !is_reached(forward, table::time_of(samples, n), t) {
+            return n;
+        }
     }
-    first_earlier(samples, t)
+    count
 }
 
 // The interval of a single time.
 pub fn interval_of(samples: &[f64], t: f64) -> usize
     ensures { result ≡ interval_of samples.now t }
 {
-    let past = first_past(is_forward(samples), samples, t);
-    let before = table::less(past, 1);
+    let before = first_past(is_forward(samples), samples, t).saturating_sub(1);
     let last = last_interval(samples);
-    if last < before {
-        return last;
-    }
-    before
+    if last < before { last } else { before }
 }
 
 // The interval of a batch's next time, when the walk stands at interval k: never one before.
@@ -119,12 +95,10 @@ pub fn walk_on(samples: &[f64], t: f64, k: usize) -> usize
 {
     let forward = is_forward(samples);
     let last = last_interval(samples);
-    let mut at = k;
-    while at < last {
+    for at in k..last {
         if !is_short(forward, table::time_of(samples, at + 1), t) {
             return at;
         }
-        at += 1;
     }
-    at
+    k.max(last)
 }

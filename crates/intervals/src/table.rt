@@ -1,7 +1,9 @@
 // SPDX-License-Identifier: MIT OR Apache-2.0
 // A table of samples: ten numbers each. Total: past the last sample every number is NaN.
-ghost use Rattle.std.specs.Prelude.{◌≡◌, ◌+◌, ◌-◌};
-ghost use Rattle.intervals.specs.Table.{count_of, time_of, no_sample, sample_of};
+#![tactic(auto, unfolding(crate::specs::Table::count_of))]
+
+ghost use Rattle.std.specs.Prelude.{◌≡◌, ◌+◌, ◌<◌, length};
+ghost use Rattle.intervals.specs.Table.{count_of, time_of, three, no_sample, sample_of};
 
 use triple::{SAMPLE_WIDTH, Sample, Triple};
 
@@ -12,68 +14,50 @@ pub fn count_of(samples: &[f64]) -> usize
     samples.len() / SAMPLE_WIDTH
 }
 
-// n less m, and 0 where n has not so much.
-pub fn less(n: usize, m: usize) -> usize
-    ensures { result ≡ n - m }
-{
-    if n < m {
-        return 0;
-    }
-    n - m
-}
-
 // The time alone, since a search reads nothing else.
 pub fn time_of(samples: &[f64], n: usize) -> f64
     ensures { result ≡ time_of samples.now n }
 {
-    if n < samples.len() / SAMPLE_WIDTH {
+    if n < count_of(samples) {
         return samples[SAMPLE_WIDTH * n];
     }
-    0.0 / 0.0
+    f64::NAN
 }
 
 fn none() -> Sample
     ensures { result ≡ no_sample }
 {
-    let nan = 0.0 / 0.0;
-    let r = Triple {
-        x: nan,
-        y: nan,
-        z: nan,
-    };
+    let nans = Triple::thrice(f64::NAN);
     Sample {
-        t: nan,
-        r,
-        v: r,
-        a: r,
+        t: f64::NAN,
+        r: nans,
+        v: nans,
+        a: nans,
+    }
+}
+
+// The three numbers from place p on.
+fn triple_at(samples: &[f64], p: usize) -> Triple
+    requires { p + 2 < length samples.now }
+    ensures { result ≡ three samples.now p (p + 1) (p + 2) }
+{
+    Triple {
+        x: samples[p],
+        y: samples[p + 1],
+        z: samples[p + 2],
     }
 }
 
 pub fn sample_of(samples: &[f64], n: usize) -> Sample
     ensures { result ≡ sample_of samples.now n }
 {
-    if n < samples.len() / SAMPLE_WIDTH {
+    if n < count_of(samples) {
         let p = SAMPLE_WIDTH * n;
-        let r = Triple {
-            x: samples[p + 1],
-            y: samples[p + 2],
-            z: samples[p + 3],
-        };
-        let v = Triple {
-            x: samples[p + 4],
-            y: samples[p + 5],
-            z: samples[p + 6],
-        };
-        let a = Triple {
-            x: samples[p + 7],
-            y: samples[p + 8],
-            z: samples[p + 9],
-        };
         return Sample {
             t: samples[p],
-            r,
-            v,
-            a,
+            r: triple_at(samples, p + 1),
+            v: triple_at(samples, p + 4),
+            a: triple_at(samples, p + 7),
         };
     }
     none()
@@ -83,7 +67,7 @@ pub fn sample_of(samples: &[f64], n: usize) -> Sample
 pub fn sample_after(samples: &[f64], n: usize) -> Sample
     ensures { result ≡ sample_of samples.now (n + 1) }
 {
-    if n < samples.len() / SAMPLE_WIDTH {
+    if n < count_of(samples) {
         return sample_of(samples, n + 1);
     }
     none()

@@ -2,7 +2,9 @@
 use mathlib.Core.Path.{sym, ◌∙◌}
 use native.Mathlib.Omega.{arith}
 use Rattle.intervals.proofs.Reading.{no_sample_lem}
+use Rattle.intervals.specs.Table.{count_of}
 use Rattle.intervals.proofs.table.sample_after.Goals as goal
 
 pub returns : goal.returns
-returns c = c.none.ensures ∙ sym (no_sample_lem _ _ (omega arith))
+unfolding count_of
+returns c = c.none.ensures ∙ sym (no_sample_lem _ _ (omega (arith, c.count_of.ensures)))
