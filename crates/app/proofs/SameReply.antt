@@ -13,28 +13,28 @@ use Rattle.gauss_jackson.specs.Answers.{Given, answered}
 use Rattle.fastpath.specs.declared.Look.{Look}
 use Rattle.fastpath.specs.declared.Look.TheVariants.{Again, On}
 use Rattle.fastpath.specs.Looking.{looked_at}
-use Rattle.fastpath.specs.Moving.{kept_step}
+use Rattle.fastpath.specs.Moving.{asked_again, made_step, kept_step}
 use Rattle.fastpath.proofs.SameAnswer.{same_again, same_on}
-use Rattle.app.specs.Reply.{reply_of, answer_reply, tried_reply, stepped_reply, tried_run, stepped_run}
+use Rattle.app.specs.Reply.{asks_for, reply_of, answer_reply, stepped_reply, tried_run, stepped_run}
 
 module _ (run : Run) (number : ℕ) (a : Triple) (from : ℕ) (out : List Float) where
   abbrev look : Look
   look = looked_at run.mark run.body.plan run.body.track run.body.trial run.body.startup_iters number a from (length out)
 
   pub again_reply : (m : Mark) (y : State) → Again m y ≡ look
-      → ((tried_reply m y run.body.plan run.body.track run.body.trial).reply ≡ answer_reply (answered run number a (tens from out)).got)
-      × (tried_run run (tried_reply m y run.body.plan run.body.track run.body.trial) ≡ (answered run number a (tens from out)).got.run)
+      → (asks_for (asked_again m y run.body.plan run.body.track run.body.trial).question 0 ≡ answer_reply (answered run number a (tens from out)).got)
+      × (tried_run run (asked_again m y run.body.plan run.body.track run.body.trial) ≡ (answered run number a (tens from out)).got.run)
       × (out ≡ numbers_of (answered run number a (tens from out)).out)
-  unfolding tried_reply reply_of numbers_of
+  unfolding reply_of numbers_of
   again_reply m y e =
       let h = same_again run number a from out m y e in
       (sym (ap (λ (g : Given). answer_reply g.got) h), sym (ap (λ (g : Given). g.got.run) h), sym (ap (λ (g : Given). numbers_of g.out) h))
 
   pub on_reply : (m : Mark) (y : State) (n : ℕ) → On m y n ≡ look
-      → ((stepped_reply m y n run.body.plan run.body.track run.body.a a).reply ≡ answer_reply (answered run number a (tens from out)).got)
-      × (stepped_run run (stepped_reply m y n run.body.plan run.body.track run.body.a a) ≡ (answered run number a (tens from out)).got.run)
+      → (stepped_reply (made_step m y n run.body.plan run.body.track run.body.a a) ≡ answer_reply (answered run number a (tens from out)).got)
+      × (stepped_run run (made_step m y n run.body.plan run.body.track run.body.a a) ≡ (answered run number a (tens from out)).got.run)
       × (kept_step y n run.body.plan run.body.track run.body.a a from out ≡ numbers_of (answered run number a (tens from out)).out)
-  unfolding stepped_reply reply_of numbers_of
+  unfolding reply_of numbers_of
   on_reply m y n e =
       let h = same_on run number a from out m y n e in
       (sym (ap (λ (g : Given). answer_reply g.got) h), sym (ap (λ (g : Given). g.got.run) h), sym (ap (λ (g : Given). numbers_of g.out) h))

@@ -17,10 +17,9 @@ ghost use Rattle.app.specs.Reply.{abi_number, reply_of, answer_reply, cost_reply
 use fastpath::Look;
 use plan::Settings;
 use profile::Cost;
-use run::{Mark, Run, Track, Trial};
+use run::Run;
 use triple::Triple;
 
-mod keeping;
 mod lending;
 mod replies;
 
@@ -41,14 +40,6 @@ pub struct Reply {
     pub number: u16,
 }
 
-// The run to go on with, and the reply.
-#[repr(C)]
-#[derive(Clone, Copy)]
-pub struct Replied {
-    pub run: Run,
-    pub reply: Reply,
-}
-
 // A forecast in plain numbers: `refusal` is 0 and the cost stands, or it is the refusal's number and the cost is all zero.
 #[repr(C)]
 #[derive(Clone, Copy)]
@@ -63,32 +54,6 @@ pub struct CostReply {
 pub struct WholeReply {
     pub reply: Reply,
     pub cost: Cost,
-}
-
-// The run to go on with, and what its start tells.
-#[repr(C)]
-#[derive(Clone, Copy)]
-pub struct WholeReplied {
-    pub run: Run,
-    pub told: WholeReply,
-}
-
-// What changes where the open step is tried once more, and the reply.
-#[derive(Clone, Copy)]
-struct TriedReply {
-    mark: Mark,
-    trial: Trial,
-    reply: Reply,
-}
-
-// What changes where a step is made and the next one is open, and the reply.
-#[derive(Clone, Copy)]
-struct SteppedReply {
-    mark: Mark,
-    a: [Triple; 9],
-    track: Track,
-    trial: Trial,
-    reply: Reply,
 }
 
 const ABI_NUMBER: u32 = 3;
@@ -121,9 +86,9 @@ pub extern "C" fn gj_start(
 ) -> Reply
     ensures { (result ≡ answer_reply (started settings t0 tf r0 v0)) × (run.new ≡ (started settings t0 tf r0 v0).run) }
 {
-    let done = replies::started_by(settings, t0, tf, r0, v0);
+    let done = gauss_jackson::start(settings, t0, tf, r0, v0);
     *run = done.run;
-    done.reply
+    Reply::from(done)
 }
 
 // W-206: what a run of whole numbers takes, before it is begun; or the refusal that its start would get (5, 12, 13, 1, 14).
@@ -131,7 +96,7 @@ pub extern "C" fn gj_start(
 pub extern "C" fn gj_forecast(settings: Settings, t0: f64, tf: f64) -> CostReply
     ensures { result ≡ cost_reply_of (forecast_of settings t0 tf) }
 {
-    replies::cost_reply_of(profile::forecast(settings, t0, tf))
+    CostReply::from(profile::forecast(settings, t0, tf))
 }
 
 // A start in the whole-second profile: the plain start's run, with its cost; or an ended one where the start is refused.
@@ -146,9 +111,9 @@ pub extern "C" fn gj_start_whole(
 ) -> WholeReply
     ensures { (result ≡ whole_reply_of (started_whole settings t0 tf r0 v0).told) × (run.new ≡ (started_whole settings t0 tf r0 v0).run) }
 {
-    let done = replies::started_whole_by(settings, t0, tf, r0, v0);
+    let done = profile::start_whole(settings, t0, tf, r0, v0);
     *run = done.run;
-    done.told
+    WholeReply::from(done.told)
 }
 
 // An answer: the lent run moves on, or stays as it is where the answer is refused by 7 or 8. `out` is the room for samples, which begins
@@ -176,7 +141,7 @@ pub extern "C" fn gj_answer(
         from,
         out.len(),
     ) {
-        Look::Again { mark, state } => lending::try_again(run, mark, state, out),
+        Look::Again { mark, state } => lending::try_again(run, mark, state),
         Look::On { mark, state, steps } => {
             lending::step_on(run, mark, state, steps, a, from, out)
         },
@@ -189,7 +154,7 @@ pub extern "C" fn gj_answer(
 pub extern "C" fn gj_open_question(run: &Run) -> Reply
     ensures { result ≡ reply_of (open_question run.now) 0 }
 {
-    replies::open_in(*run)
+    replies::reply_of(gauss_jackson::open_question(*run), 0)
 }
 
 // The run put away in `out`, 2,048 bytes: 0, or the number of the refusal (7, 10), and then `out` is as it was.
@@ -198,7 +163,7 @@ pub extern "C" fn gj_store(run: &Run, out: &mut [u8]) -> u32
     ensures { (result ≡ number_told (storing run.now out.old))
         × (out.new ≡ stored_in run.now out.old) }
 {
-    keeping::stored_by(*run, out)
+    u32::from(refusals::number_told(stored::store(*run, out)))
 }
 
 // A stored run taken up again: the lent run becomes it and the reply is its open question; refused (10, 11), the lent run stays as it is.
@@ -207,9 +172,9 @@ pub extern "C" fn gj_load(run: &mut Run, bytes: &[u8]) -> Reply
     ensures { (result ≡ answer_reply (loaded run.old bytes.now))
         × (run.new ≡ (loaded run.old bytes.now).run) }
 {
-    let done = keeping::loaded_by(*run, bytes);
+    let done = stored::load(*run, bytes);
     *run = done.run;
-    done.reply
+    Reply::from(done)
 }
 
 // Position, velocity and acceleration at t, nine numbers of `out`: 0, or the number of the refusal (9, 3, 4).
