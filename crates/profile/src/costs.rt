@@ -1,6 +1,6 @@
 // SPDX-License-Identifier: MIT OR Apache-2.0
 // 01, "Counting beforehand", in numbers of 64 bits. No count comes near to wrapping: the largest is below 2^58.
-ghost use Rattle.std.specs.Prelude.{◌≡◌, ◌+◌, ◌*◌, ◌≤◌, if◌then◌else◌, unsigned_abs};
+ghost use Rattle.std.specs.Prelude.{◌≡◌, true, ◌+◌, ◌*◌, ◌≤◌, if◌then◌else◌, unsigned_abs};
 ghost use Rattle.plan.specs.Limits.{wants_samples};
 ghost use Rattle.run.specs.Ready.{Small};
 ghost use Rattle.counting.specs.Counting.{span_of, steps_for, tail_for, fewest_for};
@@ -20,14 +20,12 @@ fn steps_for(span: u64, step: u64) -> u64
     (span + (step - 1)) / step
 }
 
-// K from t0 to tf by h; 0 where they are not whole.
+// K from t0 to tf by h, which are whole.
 #[tactic(auto, using(crate::proofs::Plainly::three, crate::proofs::Reading::step_is_time, crate::proofs::Forecasts::countable))]
 pub fn steps_between(t0: f64, tf: f64, h: f64) -> u64
-    ensures { result ≡ (if are_whole t0 tf h then steps_for (span_of (whole_of t0) (whole_of tf)) (unsigned_abs (whole_of h)) else 0) }
+    requires { are_whole t0 tf h ≡ true }
+    ensures { result ≡ steps_for (span_of (whole_of t0) (whole_of tf)) (unsigned_abs (whole_of h)) }
 {
-    if !wholes::are_whole(t0, tf, h) {
-        return 0;
-    }
     let span = wholes::span_of(t0, tf);
     let step = wholes::size_of(h);
     steps_for(span, step)

@@ -61,7 +61,6 @@ pub fn forecast(settings: Settings, t0: f64, tf: f64) -> Result<Cost, Refusal>
     ensures { result ≡ forecast_of settings t0 tf }
 {
     let plan = plan::plan_of(settings, t0, tf);
-    let steps = costs::steps_between(t0, tf, settings.h);
     if !limits::are_within_limits(settings) {
         return Err(Refusal::Setting);
     }
@@ -74,6 +73,7 @@ pub fn forecast(settings: Settings, t0: f64, tf: f64) -> Result<Cost, Refusal>
     if plan::is_too_near(plan) {
         return Err(Refusal::StepNotFinite);
     }
+    let steps = costs::steps_between(t0, tf, settings.h);
     if settings.max_steps < steps {
         return Err(Refusal::TooFewSteps);
     }
