@@ -7,14 +7,13 @@ ghost use Rattle.std.specs.Float.Ieee.{of_bits, to_bits};
 ghost use Rattle.std.specs.Float.{binary64};
 ghost use Rattle.bits.specs.Patterns.{pattern_of};
 
+use std::num;
+
 // The float of a pattern.
 pub fn float_of(bits: u64) -> f64
     ensures { result ≡ of_bits binary64 bits }
 {
-    if bits % 0x8000_0000_0000_0000 > 0x7ff0_0000_0000_0000 {
-        return f64::NAN;
-    }
-    f64::from_bits(bits)
+    num::f64_from_bits_with_nan(bits)
 }
 
 // The pattern of a float; none for a NaN.
@@ -31,5 +30,5 @@ pub fn pattern_of(x: f64) -> Option<u64>
 pub fn bits_of(x: f64) -> u64
     ensures { result ≡ to_bits binary64 x }
 {
-    pattern_of(x).unwrap_or(0x7ff8_0000_0000_0000)
+    num::f64_to_bits_with_nan(x)
 }

@@ -1,159 +1,114 @@
 // SPDX-License-Identifier: MIT OR Apache-2.0
 // The four forces of the case format, by component, each operation rounded once.
-use crate::case::Cursor;
-use crate::words::Word;
-use crate::{case, words};
+use crate::words::Words;
 use triple::Triple;
 
-const LIN: u8 = 0;
-
-const CUB: u8 = 1;
-
-const LCG: u8 = 2;
-
-const MIX: u8 = 3;
-
-const NONE: u8 = 4;
-
-// A force with its parameters, what it keeps between answers, and the number of the next answer over the whole run.
+// How much of the position, of the velocity and of the time.
 #[derive(Clone, Copy)]
-pub struct Force {
-    pub kind: u8,
-    pub p0: f64,
-    pub p1: f64,
-    pub p2: f64,
-    pub state: u64,
-    pub next: u64,
+pub struct Weights {
+    r: f64,
+    v: f64,
+    t: f64,
 }
 
+// A force with what it keeps between answers.
 #[derive(Clone, Copy)]
-pub struct Told {
-    pub a: Triple,
-    pub force: Force,
+pub enum Force {
+    Linear(Weights),
+    Cubic { factor: f64, constant: f64 },
+    Random { state: u64 },
+    // And the number of the next answer over the whole run.
+    Mixed { weights: Weights, next: u64 },
 }
 
-#[derive(Clone, Copy)]
-pub struct GotForce {
-    pub value: Force,
-    pub cursor: Cursor,
-}
-
-fn kind_of(line: &[u8], w: Word) -> u8 {
-    if words::is_text(line, w, b"lin") {
-        return LIN;
+impl Weights {
+    fn component(self, t: f64, r: f64, v: f64) -> f64 {
+        (self.r * r + self.v * v) + self.t * t
     }
-    if words::is_text(line, w, b"cub") {
-        return CUB;
+
+    fn pull(self, t: f64, r: Triple, v: Triple) -> Triple {
+        Triple {
+            x: self.component(t, r.x, v.x),
+            y: self.component(t, r.y, v.y),
+            z: self.component(t, r.z, v.z),
+        }
     }
-    if words::is_text(line, w, b"lcg") {
-        return LCG;
-    }
-    if words::is_text(line, w, b"mix") {
-        return MIX;
-    }
-    NONE
 }
 
-// The force's name and its four parameters.
-pub fn read(line: &[u8], c: Cursor) -> GotForce {
-    let w = words::next_word(line, c.at);
-    let kind = kind_of(line, w);
-    let start = Cursor {
-        at: w.end,
-        ok: c.ok && kind != NONE,
-    };
-    let p0 = case::hex(line, start);
-    let p1 = case::hex(line, p0.cursor);
-    let p2 = case::hex(line, p1.cursor);
-    let p3 = case::hex(line, p2.cursor);
-    let value = Force {
-        kind,
-        p0: bits::float_of(p0.value),
-        p1: bits::float_of(p1.value),
-        p2: bits::float_of(p2.value),
-        state: p0.value,
-        next: 0,
-    };
-    let cursor = p3.cursor;
-    GotForce { value, cursor }
-}
-
-fn linear(f: Force, t: f64, r: f64, v: f64) -> f64 {
-    (f.p0 * r + f.p1 * v) + f.p2 * t
-}
-
-fn cubic(f: Force, r: f64) -> f64 {
-    (f.p0 * r) * (r * r) + f.p1
-}
-
-fn linear_triple(f: Force, t: f64, r: Triple, v: Triple) -> Triple {
-    Triple {
-        x: linear(f, t, r.x, v.x),
-        y: linear(f, t, r.y, v.y),
-        z: linear(f, t, r.z, v.z),
-    }
+fn cubic(factor: f64, constant: f64, r: f64) -> f64 {
+    (factor * r) * (r * r) + constant
 }
 
 // Now and then a NaN or an infinity.
-fn mixed_triple(f: Force, t: f64, r: Triple, v: Triple) -> Triple {
-    let mut a = linear_triple(f, t, r, v);
-    if f.next % 7 == 3 {
-        a.x = 0.0 / 0.0;
+fn with_faults(next: u64, a: Triple) -> Triple {
+    Triple {
+        x: if next % 7 == 3 { f64::NAN } else { a.x },
+        y: if next % 11 == 5 { f64::INFINITY } else { a.y },
+        z: if next % 13 == 6 {
+            f64::NEG_INFINITY
+        } else {
+            a.z
+        },
     }
-    if f.next % 11 == 5 {
-        a.y = 1.0 / 0.0;
-    }
-    if f.next % 13 == 6 {
-        a.z = -1.0 / 0.0;
-    }
-    a
-}
-
-// a * b modulo 2^64, by halves of 32 bits.
-fn wrapping_mul(a: u64, b: u64) -> u64 {
-    let a1 = a / 0x1_0000_0000;
-    let a0 = a % 0x1_0000_0000;
-    let b1 = b / 0x1_0000_0000;
-    let b0 = b % 0x1_0000_0000;
-    let cross = std::num::wrapping_add_u64(a1 * b0, a0 * b1);
-    std::num::wrapping_add_u64(a0 * b0, (cross % 0x1_0000_0000) * 0x1_0000_0000)
 }
 
 fn step(state: u64) -> u64 {
-    std::num::wrapping_add_u64(
-        wrapping_mul(state, 6364136223846793005),
-        1442695040888963407,
-    )
+    state
+        .wrapping_mul(6364136223846793005)
+        .wrapping_add(1442695040888963407)
 }
 
-// The acceleration at a question, and the force for the next.
-pub fn answer(f: Force, t: f64, r: Triple, v: Triple) -> Told {
-    let mut next = f;
-    next.next = std::num::wrapping_add_u64(f.next, 1);
-    if f.kind == LIN {
-        let a = linear_triple(f, t, r, v);
-        return Told { a, force: next };
+impl Force {
+    // A force's name and the four parameters, of which it takes what it needs.
+    pub fn read(words: &mut Words<'_>) -> Option<Force> {
+        let name = words.next()?;
+        let first = words.pattern()?;
+        let r = bits::float_of(first);
+        let v = words.float()?;
+        let t = words.float()?;
+        words.pattern()?;
+        match name {
+            b"lin" => Some(Force::Linear(Weights { r, v, t })),
+            b"cub" => Some(Force::Cubic {
+                factor: r,
+                constant: v,
+            }),
+            b"lcg" => Some(Force::Random { state: first }),
+            b"mix" => Some(Force::Mixed {
+                weights: Weights { r, v, t },
+                next: 0,
+            }),
+            _ => None,
+        }
     }
-    if f.kind == CUB {
-        let a = Triple {
-            x: cubic(f, r.x),
-            y: cubic(f, r.y),
-            z: cubic(f, r.z),
-        };
-        return Told { a, force: next };
+
+    // The acceleration at a question; what is kept is then for the next.
+    pub fn answer(&mut self, t: f64, r: Triple, v: Triple) -> Triple {
+        match *self {
+            Force::Linear(weights) => weights.pull(t, r, v),
+            Force::Cubic { factor, constant } => Triple {
+                x: cubic(factor, constant, r.x),
+                y: cubic(factor, constant, r.y),
+                z: cubic(factor, constant, r.z),
+            },
+            Force::Random { state } => {
+                let x = step(state);
+                let y = step(x);
+                let z = step(y);
+                *self = Force::Random { state: z };
+                Triple {
+                    x: bits::float_of(x),
+                    y: bits::float_of(y),
+                    z: bits::float_of(z),
+                }
+            }
+            Force::Mixed { weights, next } => {
+                *self = Force::Mixed {
+                    weights,
+                    next: next.wrapping_add(1),
+                };
+                with_faults(next, weights.pull(t, r, v))
+            }
+        }
     }
-    if f.kind == MIX {
-        let a = mixed_triple(f, t, r, v);
-        return Told { a, force: next };
-    }
-    let x = step(f.state);
-    let y = step(x);
-    let z = step(y);
-    next.state = z;
-    let a = Triple {
-        x: bits::float_of(x),
-        y: bits::float_of(y),
-        z: bits::float_of(z),
-    };
-    Told { a, force: next }
 }

@@ -1,152 +1,124 @@
 // SPDX-License-Identifier: MIT OR Apache-2.0
 // Lines out of pieces of the input, and what each asks for.
-use crate::words::Word;
-use crate::{Place, between, case, play, text, words};
-use std::io::{self, Stdout};
+use crate::words::Words;
+use crate::{Replay, case, text};
+use std::io;
 
-// A piece of the input: each line that ends in it is dealt with.
-pub fn take(
-    to: &mut Stdout,
-    piece: &[u8],
-    place: Place,
-    line: &mut [u8],
-    samples: &mut [f64],
-) -> io::Result<Place> {
-    let mut now = place;
-    let mut i = 0usize;
-    while i < piece.len() {
-        now = take_byte(to, piece[i], now, line, samples)?;
-        i += 1;
-    }
-    Ok(now)
+// The longest line.
+const LONGEST: usize = 32768;
+
+// The line that is being read, as far as it is; no length where it is too long.
+#[derive(Drop)]
+pub struct Partial {
+    bytes: [u8; LONGEST],
+    length: Option<usize>,
 }
 
-fn take_byte(
-    to: &mut Stdout,
-    b: u8,
-    place: Place,
-    line: &mut [u8],
-    samples: &mut [f64],
-) -> io::Result<Place> {
-    if b == b'\n' {
-        let held = deal(to, place, line, samples)?;
-        return Ok(Place {
-            number: std::num::wrapping_add_u64(place.number, 1),
-            length: 0,
-            held,
-        });
-    }
-    let at = place.length;
-    if at < line.len() {
-        line[at] = b;
-        return Ok(Place {
-            number: place.number,
-            length: at + 1,
-            held: place.held,
-        });
-    }
-    Ok(Place {
-        number: place.number,
-        length: usize::MAX,
-        held: place.held,
-    })
-}
-
-// The last line may have no end.
-pub fn finish(to: &mut Stdout, place: Place, line: &[u8], samples: &mut [f64]) -> io::Result<()> {
-    if place.length > 0 {
-        deal(to, place, line, samples)?;
-    }
-    Ok(())
-}
-
-// One line: what it leaves of samples.
-fn deal(to: &mut Stdout, place: Place, line: &[u8], samples: &mut [f64]) -> io::Result<usize> {
-    let n = place.length;
-    if n > line.len() {
-        text::print_bad(to, place.number)?;
-        return Ok(place.held);
-    }
-    deal_with(to, place, &line[..n], samples)
-}
-
-fn deal_with(to: &mut Stdout, place: Place, line: &[u8], samples: &mut [f64]) -> io::Result<usize> {
-    if line.len() > 0 {
-        if line[0] == b'#' {
-            return Ok(place.held);
+impl Partial {
+    pub fn new() -> Partial {
+        Partial {
+            bytes: [0; LONGEST],
+            length: Some(0),
         }
     }
-    if !words::are_printable(line) {
-        text::print_bad(to, place.number)?;
-        return Ok(place.held);
+
+    pub fn push(&mut self, b: u8) {
+        let Some(n) = self.length else {
+            return;
+        };
+        if n < LONGEST {
+            self.bytes[n] = b;
+            self.length = Some(n + 1);
+        } else {
+            self.length = None;
+        }
     }
-    let first = words::next_word(line, 0);
-    if first.start == first.end {
-        return Ok(place.held);
+
+    // The line; none where it is too long.
+    pub fn line(&self) -> Option<&[u8]> {
+        self.bytes.get(..self.length?)
     }
-    deal_by_word(to, place, line, first, samples)
+
+    pub fn is_empty(&self) -> bool {
+        self.length == Some(0)
+    }
+
+    pub fn clear(&mut self) {
+        self.length = Some(0);
+    }
 }
 
-// What the first word asks for.
-fn deal_by_word(
-    to: &mut Stdout,
-    place: Place,
-    line: &[u8],
-    first: Word,
-    samples: &mut [f64],
-) -> io::Result<usize> {
-    if words::is_text(line, first, b"case") {
-        return deal_with_case(to, place, line, first.end, true, samples);
+impl Replay {
+    // A piece of the input: each line that ends in it is dealt with.
+    pub fn take(&mut self, piece: &[u8], partial: &mut Partial) -> io::Result<()> {
+        for b in piece {
+            if *b == b'\n' {
+                self.deal(partial.line())?;
+                self.number = self.number.wrapping_add(1);
+                partial.clear();
+            } else {
+                partial.push(*b);
+            }
+        }
+        Ok(())
     }
-    if words::is_text(line, first, b"final") {
-        return deal_with_case(to, place, line, first.end, false, samples);
-    }
-    if words::is_text(line, first, b"table") {
-        return between::take_table(to, place, line, first.end, samples);
-    }
-    let held = place.held;
-    if held <= samples.len() {
-        deal_with_times(to, place, line, first, &samples[..held])?;
-    }
-    Ok(held)
-}
 
-// A line that asks between the samples held.
-fn deal_with_times(
-    to: &mut Stdout,
-    place: Place,
-    line: &[u8],
-    first: Word,
-    samples: &[f64],
-) -> io::Result<()> {
-    if words::is_text(line, first, b"at") {
-        return between::tell_at(to, place, line, first.end, samples);
+    // The last line may have no end.
+    pub fn finish(&mut self, partial: &Partial) -> io::Result<()> {
+        if partial.is_empty() {
+            return Ok(());
+        }
+        self.deal(partial.line())
     }
-    if words::is_text(line, first, b"batch") {
-        return between::tell_batch(to, place, line, first.end, samples);
-    }
-    text::print_bad(to, place.number)
-}
 
-// A `case` is told whole; of a `final` only the end is, so that a year can stand in a list.
-fn deal_with_case(
-    to: &mut Stdout,
-    place: Place,
-    line: &[u8],
-    at: usize,
-    whole: bool,
-    samples: &mut [f64],
-) -> io::Result<usize> {
-    let read = case::read(line, at);
-    if !read.ok {
-        text::print_bad(to, place.number)?;
-        return Ok(place.held);
+    // One line; none is one that is too long.
+    fn deal(&mut self, line: Option<&[u8]>) -> io::Result<()> {
+        let Some(line) = line else {
+            return self.print_bad();
+        };
+        if line.starts_with(b"#") {
+            return Ok(());
+        }
+        if !line.iter().all(|b| *b == b' ' || b.is_ascii_graphic()) {
+            return self.print_bad();
+        }
+        let mut words = Words { rest: line };
+        match words.next() {
+            Some(first) => self.deal_with(first, &mut words),
+            None => Ok(()),
+        }
     }
-    let name = words::next_word(line, at);
-    if whole {
-        text::print_named(to, b"case ", line, name)?;
-    } else {
-        text::print_named(to, b"final ", line, name)?;
+
+    // What the first word asks for.
+    fn deal_with(&mut self, first: &[u8], words: &mut Words<'_>) -> io::Result<()> {
+        match first {
+            b"case" => self.deal_with_case(words, true),
+            b"final" => self.deal_with_case(words, false),
+            b"table" => self.take_table(words),
+            b"at" => self.tell_at(words),
+            b"batch" => self.tell_batch(words),
+            _ => self.print_bad(),
+        }
     }
-    play::play(to, read, whole, samples)
+
+    // A `case` is told whole; of a `final` only the end is, so that a year can stand in a list.
+    fn deal_with_case(&mut self, words: &mut Words<'_>, whole: bool) -> io::Result<()> {
+        let Some(name) = words.next() else {
+            return self.print_bad();
+        };
+        let Some(case) = case::read(words) else {
+            return self.print_bad();
+        };
+        let what = if whole {
+            b"case ".as_slice()
+        } else {
+            b"final ".as_slice()
+        };
+        text::print_named(&mut self.to, what, name)?;
+        self.play(case, whole)
+    }
+
+    pub fn print_bad(&mut self) -> io::Result<()> {
+        text::print_bad(&mut self.to, self.number)
+    }
 }

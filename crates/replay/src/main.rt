@@ -13,70 +13,43 @@ mod play;
 mod text;
 mod words;
 
-use std::io::{self, Read, Stdin, Stdout};
+use line::Partial;
+use std::io::{self, Read, Stdout};
 
-// The longest line; room for 2,001 samples, ten numbers each.
-const LONGEST: usize = 32768;
-
+// Room for 2,001 samples, ten numbers each.
 const ROOM: usize = 20010;
 
-// So many bytes are read at once.
+// So many bytes are read at once, and so many times: more than there are.
 const PIECE: usize = 4096;
 
-// What is kept from line to line: the line's number from 1, how much of it is read (past LONGEST it is too long), and how many
-// numbers of samples the last case or table left.
-#[derive(Clone, Copy)]
-pub struct Place {
+const PIECES: u64 = 0x1000_0000_0000;
+
+// What is kept from line to line: the line's number from 1, and the samples that the last case or table left.
+#[derive(Drop)]
+pub struct Replay {
+    pub to: Stdout,
     pub number: u64,
-    pub length: usize,
+    pub samples: [f64; ROOM],
+    // So many numbers of them are held.
     pub held: usize,
-}
-
-// After a piece of the input: whether there may be more.
-#[derive(Clone, Copy)]
-pub struct Reading {
-    pub place: Place,
-    pub going: bool,
-}
-
-// One piece of the input.
-fn read_piece(
-    input: &mut Stdin,
-    to: &mut Stdout,
-    place: Place,
-    line: &mut [u8],
-    samples: &mut [f64],
-) -> io::Result<Reading> {
-    let mut piece = [0u8; PIECE];
-    let n = input.read(&mut piece)?;
-    if n == 0 {
-        return Ok(Reading {
-            place,
-            going: false,
-        });
-    }
-    let next = line::take(to, &piece[..n], place, line, samples)?;
-    Ok(Reading {
-        place: next,
-        going: true,
-    })
 }
 
 fn main(rt: HostRuntime) -> io::Result<()> {
     let mut input = rt.stdin();
-    let mut to = rt.stdout();
-    let mut line = [0u8; LONGEST];
-    let mut samples = [0.0f64; ROOM];
-    let place = Place {
+    let mut replay = Replay {
+        to: rt.stdout(),
         number: 1,
-        length: 0,
+        samples: [0.0; ROOM],
         held: 0,
     };
-    let mut now = Reading { place, going: true };
-    let mut turns: u64 = 0;
-    while now.going && turns < 0x1000_0000_0000 {
-        now = read_piece(&mut input, &mut to, now.place, &mut line, &mut samples)?;
-        turns += 1;
+    let mut partial = Partial::new();
+    let mut piece = [0u8; PIECE];
+    for _ in 0..PIECES {
+        let n = input.read(&mut piece)?;
+        if n == 0 {
+            break;
+        }
+        replay.take(&piece[..n], &mut partial)?;
     }
-    line::finish(&mut to, now.place, &line, &mut samples)
+    replay.finish(&partial)
 }

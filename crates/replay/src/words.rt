@@ -1,156 +1,89 @@
 // SPDX-License-Identifier: MIT OR Apache-2.0
 // Words apart by blanks, and the numbers in them.
-ghost use Rattle.std.specs.Prelude.{◌^◌, ◌<◌};
+ghost use Rattle.std.specs.Prelude.{◌<◌, length};
+ghost use Rattle.std.specs.Iterator.{at_most};
+ghost use Rattle.std.specs.Option.{IfSome};
 
-// From start to before end; empty where there is no word left.
-#[derive(Clone, Copy)]
-pub struct Word {
-    pub start: usize,
-    pub end: usize,
+use triple::Triple;
+
+// What is left of a line. Each item is a word, which is never empty.
+#[derive(Drop)]
+pub struct Words<'a> {
+    pub rest: &'a [u8],
 }
 
-#[derive(Clone, Copy)]
-pub enum Number {
-    Is(u64),
-    Bad,
-}
+impl<'a> Iterator for Words<'a> {
+    type Item = &'a [u8];
 
-pub fn are_printable(line: &[u8]) -> bool {
-    let mut i = 0usize;
-    while i < line.len() {
-        if line[i] < b' ' {
-            return false;
-        }
-        if line[i] > b'~' {
-            return false;
-        }
-        i += 1;
-    }
-    true
-}
+    ghost remaining = { λ s. at_most (length s.rest.now) };
 
-fn past_blanks(line: &[u8], from: usize) -> usize {
-    let mut i = from;
-    while i < line.len() {
-        if line[i] != b' ' {
-            return i;
-        }
-        i += 1;
+    fn next(&mut self) -> Option<&'a [u8]> {
+        let start = self.rest.iter().position(|b| *b != b' ')?;
+        let from = &self.rest[start..];
+        let end = from.iter().position(|b| *b == b' ').unwrap_or(from.len());
+        let (word, rest) = from.split_at(end);
+        self.rest = rest;
+        Some(word)
     }
-    i
-}
-
-fn past_word(line: &[u8], from: usize) -> usize {
-    let mut i = from;
-    while i < line.len() {
-        if line[i] == b' ' {
-            return i;
-        }
-        i += 1;
-    }
-    i
-}
-
-pub fn next_word(line: &[u8], from: usize) -> Word {
-    let start = past_blanks(line, from);
-    let end = past_word(line, start);
-    Word { start, end }
-}
-
-// Whether a word is these bytes.
-pub fn is_text(line: &[u8], w: Word, text: &[u8]) -> bool {
-    let start = w.start;
-    let end = w.end;
-    if end > line.len() {
-        return false;
-    }
-    if start > end {
-        return false;
-    }
-    if end - start != text.len() {
-        return false;
-    }
-    line[start..end] == text[..]
-}
-
-// The value of a decimal digit, 10 for any other byte.
-fn numeral(b: u8) -> u64 {
-    if b < b'0' {
-        return 10;
-    }
-    if b <= b'9' {
-        return (b - b'0') as u64;
-    }
-    10
-}
-
-// One digit more; the base is 10 or else 2.
-fn with_digit(value: u64, base: u64, d: u64) -> u64
-    requires { (value < 2 ^ 60) × (d < 16) }
-{
-    if base == 10 {
-        return value * 10 + d;
-    }
-    value * 2 + d
-}
-
-// A word of digits below `base`, from `least` to `most` of them.
-fn digits(line: &[u8], w: Word, base: u64, least: usize, most: usize) -> Number {
-    let mut i = w.start;
-    let end = w.end;
-    if end > line.len() {
-        return Number::Bad;
-    }
-    if i > end {
-        return Number::Bad;
-    }
-    if end - i < least {
-        return Number::Bad;
-    }
-    if end - i > most {
-        return Number::Bad;
-    }
-    let mut value: u64 = 0;
-    while i < end {
-        let d = numeral(line[i]);
-        if d >= base {
-            return Number::Bad;
-        }
-        if d > 15 {
-            return Number::Bad;
-        }
-        if value > 0x0fff_ffff_ffff_ffff {
-            return Number::Bad;
-        }
-        value = with_digit(value, base, d);
-        i += 1;
-    }
-    Number::Is(value)
 }
 
 // Sixteen hex digits: a float's bits.
-pub fn hex_word(line: &[u8], w: Word) -> Number {
-    let start = w.start;
-    let end = w.end;
-    if start > end {
-        return Number::Bad;
+fn pattern(word: &[u8]) -> Option<u64> {
+    if word.len() != 16 {
+        return None;
     }
-    if end - start != 16 {
-        return Number::Bad;
-    }
-    let read = lines::read_hex(line, start);
-    if !read.ok {
-        return Number::Bad;
-    }
-    Number::Is(read.value)
+    lines::read_hex(word, 0)
 }
 
-// One to ten decimal digits: a count.
-pub fn count_word(line: &[u8], w: Word) -> Number {
-    digits(line, w, 10, 1, 10)
-}
+impl<'a> Words<'a> {
+    pub fn pattern(&mut self) -> Option<u64> {
+        pattern(self.next()?)
+    }
 
-// 0 or 1.
-pub fn flag_word(line: &[u8], w: Word) -> Number {
-    digits(line, w, 2, 1, 1)
+    pub fn float(&mut self) -> Option<f64> {
+        Some(bits::float_of(self.pattern()?))
+    }
+
+    pub fn triple(&mut self) -> Option<Triple> {
+        let x = self.float()?;
+        let y = self.float()?;
+        let z = self.float()?;
+        Some(Triple { x, y, z })
+    }
+
+    // One to ten decimal digits.
+    pub fn count(&mut self) -> Option<u64> {
+        let word = self.next()?;
+        if word.len() > 10 {
+            return None;
+        }
+        let mut n = 0u64;
+        for b in word {
+            let d = char::from(*b).to_digit(10)?;
+            n = n.checked_mul(10)?.checked_add(u64::from(d))?;
+        }
+        Some(n)
+    }
+
+    // 0 or 1, in one digit.
+    pub fn flag(&mut self) -> Option<u8> {
+        match self.next()? {
+            b"0" => Some(0),
+            b"1" => Some(1),
+            _ => None,
+        }
+    }
+
+    // All that are left, each a float; says how many. None where there are more than have room and leave one place.
+    pub fn floats(&mut self, into: &mut [f64]) -> Option<usize>
+        ensures { IfSome result (λ n. n < length into.old) }
+    {
+        for (n, place) in into.iter_mut().enumerate() {
+            let Some(word) = self.next() else {
+                return Some(n);
+            };
+            *place = bits::float_of(pattern(word)?);
+        }
+        None
+    }
 }
