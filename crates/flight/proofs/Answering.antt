@@ -27,7 +27,7 @@ use Rattle.counting.specs.Rooms.{Holds}
 use Rattle.counting.proofs.Ahead.{reached, samples_ahead, count_ahead, from_there, stop_at, due_holds, settles}
 use Rattle.point_mass.specs.Force.{distance, is_too_low, pull, pull_at}
 use Rattle.flight.specs.declared.Flight.{Flight}
-use Rattle.flight.specs.Flight.{flight_of, flown_after, answered_by, answered_once}
+use Rattle.flight.specs.Flight.{flight_of, flown_after, landed_low, answered_by, answered_once}
 use Rattle.flight.specs.Story.{Story, numbered, nothing_more, story}
 use Rattle.flight.proofs.Once.{once_low, once_high}
 use Rattle.flight.proofs.Settling.{Asked, Ended, settled, tale_ahead}
@@ -87,7 +87,7 @@ module _ (p : Plan) (c : Claims) (m from : ℕ) (f : Flight) (numbers : List Flo
   next_is = ap (λ (n : ℕ). f.next + n) stored_is
 
   low_goes : is_too_low (distance o.asked.r) ≡ true → Goes p c (m + 1) from f numbers st (answered_once from f numbers)
-  unfolding put_all numbered pull_at
+  unfolding landed_low put_all numbered pull_at
   low_goes h =
       let e = enough in
       subst (Goes p c (m + 1) from f numbers st) (sym (once_low from f numbers o.asked o.phase (rw h)))

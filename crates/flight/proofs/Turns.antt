@@ -6,10 +6,9 @@ use mathlib.Core.Bool.{true}
 use mathlib.Core.List.{List}
 use lib.ListN.{length}
 use lib.Ieee.{Float}
-use Rattle.std.specs.Prelude.{Some, None, Err}
+use Rattle.std.specs.Prelude.{Some, None}
 use Rattle.triple.specs.declared.Triple.{Triple}
 use Rattle.triple.specs.declared.State.{State}
-use Rattle.refusals.specs.declared.Refusal.TheVariants.{TooLow}
 use Rattle.plan.specs.declared.Plan.{Plan}
 use Rattle.run.specs.declared.Mark.{Mark}
 use Rattle.run.specs.Samples.{numbers_of}
@@ -21,10 +20,10 @@ use Rattle.fastpath.specs.Moving.{asked_again, made_step, kept_step}
 use Rattle.fastpath.proofs.SameAnswer.{same_again, same_on}
 use Rattle.point_mass.specs.Force.{pull_at}
 use Rattle.flight.specs.declared.Phase.{Phase}
-use Rattle.flight.specs.declared.Phase.TheVariants.{Asks, Over}
+use Rattle.flight.specs.declared.Phase.TheVariants.{Asks}
 use Rattle.flight.specs.declared.Flight.{Flight}
 use Rattle.flight.specs.declared.parts.Parts.{Parts}
-use Rattle.flight.specs.Flight.{phase_of, flight_of, Flown, flown_after, answered_by, answered_once, is_ready, flown_by}
+use Rattle.flight.specs.Flight.{phase_of, flight_of, Flown, landed_low, flown_after, answered_by, answered_once, is_ready, flown_by}
 use Rattle.flight.specs.Parts.{parts_of, together, tried_parts, stepped_parts}
 use Rattle.flight.proofs.Pieces.{flown_more, flown_over}
 use Rattle.flight.proofs.Once.{once_low, once_high}
@@ -44,12 +43,9 @@ module _ (from left next : ℕ) (f : Flight) (h : Parts) (numbers : List Float) 
   unfolding together
   turned = flown_more from (together f h) numbers left next one ready
 
-  abbrev low : Flight
-  low = record { run = (together f h).run; next = h.next; phase = Over (Err TooLow) }
-
-  pub turned_low : pull_at h.question.r ≡ None → flown_by left from (together f h) numbers ≡ record { flight = low; out = numbers }
-  unfolding together
-  turned_low e = to _ turned _ (once_low from (together f h) numbers h.question refl e) ∙ flown_over from low numbers next _ refl
+  pub turned_low : pull_at h.question.r ≡ None → flown_by left from (together f h) numbers ≡ record { flight = landed_low (together f h); out = numbers }
+  unfolding together landed_low
+  turned_low e = to _ turned _ (once_low from (together f h) numbers h.question refl e) ∙ flown_over from (landed_low (together f h)) numbers next _ refl
 
   module _ (a : Triple) (high : pull_at h.question.r ≡ Some a) where
     pub turned_plainly : Turned (answered_by h.question a from (together f h) numbers).flight (answered_by h.question a from (together f h) numbers).out

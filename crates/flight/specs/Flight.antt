@@ -56,8 +56,11 @@ flown_after next g = record { flight = flight_of (next + g.got.stored) g.got; ou
 unfoldable pub answered_by : Question → Triple → (from : ℕ) → Flight → List Float → Flown
 answered_by q a from f numbers = flown_after f.next (answered f.run q.number a (tens from numbers))
 
+unfoldable pub landed_low : Flight → Flight
+landed_low f = record { run = f.run; next = f.next; phase = Over (Err TooLow) }
+
 unfoldable pub pulled_by : Question → Option Triple → (from : ℕ) → Flight → List Float → Flown
-pulled_by q None from f numbers = record { flight = record { run = f.run; next = f.next; phase = Over (Err TooLow) }; out = numbers }
+pulled_by q None from f numbers = record { flight = landed_low f; out = numbers }
 pulled_by q (Some a) from f numbers = answered_by q a from f numbers
 
 -- where none is open, none is answered

@@ -18,7 +18,7 @@ use Rattle.point_mass.specs.Force.{pull_at}
 use Rattle.flight.specs.declared.Flight.{Flight}
 use Rattle.flight.specs.declared.Phase.{Phase}
 use Rattle.flight.specs.declared.Phase.TheVariants.{Asks, Over}
-use Rattle.flight.specs.Flight.{asks, Flown, flight_of, flown_after, answered_by, pulled_by, answered_in, answered_once, beyond, is_ready, flown_by, piece, flown_on}
+use Rattle.flight.specs.Flight.{asks, Flown, flight_of, flown_after, landed_low, answered_by, pulled_by, answered_in, answered_once, beyond, is_ready, flown_by, piece, flown_on}
 use Rattle.flight.proofs.Stored.{stored_few}
 use Rattle.flight.proofs.Pieces.{ready_is}
 
@@ -29,7 +29,7 @@ record Once (f : Flight) (numbers : List Float) (g : Flown) : Type 0 where
   same : length g.out ≡ length numbers
 
 once_pulled : (q : Question) (x : Option Triple) (from : ℕ) (f : Flight) (numbers : List Float) → Once f numbers (pulled_by q x from f numbers)
-unfolding pulled_by answered_by flown_after flight_of
+unfolding pulled_by landed_low answered_by flown_after flight_of
 once_pulled q None from f numbers = record { forth = omega arith; few = omega arith; same = refl }
 once_pulled q (Some a) from f numbers =
     let w = stored_is_written f.run q.number a (tens from numbers) in

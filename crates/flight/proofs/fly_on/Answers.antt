@@ -7,7 +7,7 @@ use Rattle.flight.specs.Parts.{together}
 use Rattle.flight.proofs.Pieces.{flown_stops, flown_none, flown_over, ready_is}
 use Rattle.flight.proofs.Turns.{whole, turned_low, turned_plainly, turned_again, turned_on}
 use Rattle.flight.proofs.fly_on.Goals as goal
-use Rattle.flight.proofs.fly_on.Goals.{in-Again, in-On, in-Away+in-Asks-phase, else-loop-test, then-loop-test+then-not-is_ready}
+use Rattle.flight.proofs.fly_on.Goals.{else-loop-test, then-loop-test+then-not-is_ready}
 
 one_less : (n : ℕ) → n < piece → piece - n ≡ suc (piece - (n + 1))
 one_less n h = omega arith
@@ -24,10 +24,10 @@ loop-init c = (refl, rw (c.parts_of-parts.ensures, whole c.args.flight c.in-Asks
 
 -- ---- too low
 pub returns-in_default-pull_at : goal.returns-in_default-pull_at
-unfolding flown_on together
+unfolding flown_on
 returns-in_default-pull_at c =
     let h = sym (turned_low _ _ _ c.loop.f c.loop.parts _ (one_less _ c.loop-test.true) (sym c.is_ready.ensures ∙ c.if-not-is_ready.false) (sym c.in_default-pull_at.ensures)) ∙ c.loop.invariant.1 in
-    (rw c.together.ensures (ap (λ (g : Flown). g.flight) h), ap (λ (g : Flown). g.out) h)
+    (c.land_low.ensures ∙ rw c.together.ensures (ap (λ (g : Flown). g.flight) h), ap (λ (g : Flown). g.out) h)
 
 -- ---- on, and the plain way
 pub step_on-parts-requires : goal.step_on-parts-requires
@@ -48,29 +48,30 @@ returns-in_default-phase c =
     ∙ c.loop.invariant.1) in
     (ap (λ (g : Flown). g.flight) h, ap (λ (g : Flown). g.out) h)
 
+pub loop-preserved-in-Again : goal.loop-preserved-in-Again
+loop-preserved-in-Again c = (
+  c.loop.invariant.0,
+  rw c.try_again-parts.ensures
+      (sym (turned_again _ _ _ c.loop.f c.loop.parts _ (one_less _ c.loop-test.true) (sym c.is_ready.ensures ∙ c.if-not-is_ready.false) _ (sym c.in-Some.ensures) _ _ c.in-Again.ensures)
+      ∙ c.loop.invariant.1),
+)
+
+pub loop-preserved-in-On : goal.loop-preserved-in-On
+loop-preserved-in-On c = (
+  omega (arith, c.step_on-parts.auto, c.loop.invariant.0),
+  rw (c.step_on-parts.ensures.0, c.step_on-parts.ensures.1)
+      (sym (turned_on _ _ _ c.loop.f c.loop.parts _ (one_less _ c.loop-test.true) (sym c.is_ready.ensures ∙ c.if-not-is_ready.false) _ (sym c.in-Some.ensures) _ _ _ c.in-On.ensures)
+      ∙ c.loop.invariant.1),
+)
+
 pub loop-preserved : goal.loop-preserved
 loop-preserved c =
-    let some = one_less c.loop.counter c.loop-test.true in
-    let ready = sym c.is_ready.ensures ∙ c.if-not-is_ready.false in
-    let high = sym c.in-Some.ensures in
-    elim c.match-look.branch [
-      | in-Again w ↦ (
-        rw w.out-is c.loop.invariant.0,
-        rw (w.out-is, w.f-is, w.parts-is, w.try_again-parts.ensures)
-            (sym (turned_again _ _ _ c.loop.f c.loop.parts _ some ready _ high _ _ w.in-Again.ensures) ∙ c.loop.invariant.1),
-      )
-      | in-On w ↦ (
-        rw w.out-is (omega (arith, w.step_on-parts.auto, c.loop.invariant.0)),
-        rw (w.out-is, w.f-is, w.parts-is, w.step_on-parts.ensures.0, w.step_on-parts.ensures.1)
-            (sym (turned_on _ _ _ c.loop.f c.loop.parts _ some ready _ high _ _ _ w.in-On.ensures) ∙ c.loop.invariant.1),
-      )
-      | in-Away+in-Asks-phase w ↦
-          let done = w.answer_plainly-f in (
-            rw w.out-is (omega (arith, done.auto, c.loop.invariant.0)),
-            rw (w.out-is, w.f-is, w.parts-is, w.parts_of-parts-in-Away.ensures, whole done.result w.in-Asks-phase.question w.in-Asks-phase.is, done.ensures.0, done.ensures.1, w.together-in-Away.ensures)
-                (sym (turned_plainly _ _ _ c.loop.f c.loop.parts _ some ready _ high) ∙ c.loop.invariant.1),
-          )
-    ]
+    let done = c.answer_plainly-f in (
+      omega (arith, done.auto, c.loop.invariant.0),
+      rw (c.parts_of-parts-in-Away.ensures, whole done.result c.in-Asks-phase.question c.in-Asks-phase.is, done.ensures.0, done.ensures.1, c.together-in-Away.ensures)
+          (sym (turned_plainly _ _ _ c.loop.f c.loop.parts _ (one_less _ c.loop-test.true) (sym c.is_ready.ensures ∙ c.if-not-is_ready.false) _ (sym c.in-Some.ensures))
+          ∙ c.loop.invariant.1),
+    )
 
 -- ---- no further question is answered here
 pub returns : goal.returns
