@@ -10,22 +10,13 @@ use lib.ListN.{length, get_or, drop, drop_of_length-le}
 use lib.Seq.{drop-cons}
 use lib.Ieee.{Float, nan}
 use borrow.Author.Tests.{lt-ltb, le-ltb, ltb-true, ltb-false}
-use Rattle.intervals.specs.declared.Ends.{Ends}
 use Rattle.intervals.specs.Intervals.{walked_to}
-use Rattle.dense.specs.Interpolation.{between_numbers, is_outside, any_outside, value_at, written, written_all}
+use Rattle.dense.specs.Interpolation.{between_numbers, value_at, written, written_all}
 
--- ---- the times that are looked at, and written
+-- ---- the times that are written
 module _ (times : List Float) (j : ℕ) (h : j < length times) where
   next : drop j times ≡ get_or times j nan ∷ drop (j + 1) times
   next = rw add-one (drop-cons times j nan h)
-
-  pub outside_on : (e : Ends) → is_outside e (get_or times j nan) ≡ false → any_outside e (drop j times) ≡ any_outside e (drop (j + 1) times)
-  unfolding any_outside
-  outside_on e o = rw (next, o)
-
-  pub outside_here : (e : Ends) → is_outside e (get_or times j nan) ≡ true → any_outside e (drop j times) ≡ true
-  unfolding any_outside
-  outside_here e o = rw (next, o)
 
   pub put_on : (l : List Float) (k : ℕ) (out : List Float) →
       written_all l j k (drop j times) out ≡ written_all l (j + 1) (walked_to l (get_or times j nan) k) (drop (j + 1) times) (written j (value_at l (walked_to l (get_or times j nan) k) (get_or times j nan)) out)
@@ -33,10 +24,6 @@ module _ (times : List Float) (j : ℕ) (h : j < length times) where
   put_on l k out = rw next
 
 module _ (times : List Float) (j : ℕ) (h : length times ≤ j) where
-  pub outside_end : (e : Ends) → any_outside e (drop j times) ≡ false
-  unfolding any_outside
-  outside_end e = rw (drop_of_length-le times h)
-
   pub put_end : (l : List Float) (k : ℕ) (out : List Float) → written_all l j k (drop j times) out ≡ out
   unfolding written_all
   put_end l k out = rw (drop_of_length-le times h)

@@ -2,7 +2,8 @@
 -- "9 shape: in interpolation: sample numbers not a multiple of 10, or output below 6 numbers a time"; "Interpolation 9, 3, 4; output past 6 numbers
 -- a time is untouched." Since W-203 the six are nine: "Its answer grows from six numbers to nine; both interpolations hand it on. Refusals: 9 reads
 -- nine numbers a time for the output." A refusal leaves the output untouched, "for a batch wholly".
-use Rattle.std.specs.Prelude.{ℕ, ◌+◌, ◌*◌, ◌/◌, ◌%◌, Bool, false, ◌||◌, not, cond, List, [], ◌∷◌, ltb, eqb, length, set, Float, ⊤, Result, Ok, Err}
+use Rattle.std.specs.Prelude.{ℕ, ◌+◌, ◌*◌, ◌/◌, ◌%◌, Bool, ◌||◌, not, cond, List, [], ◌∷◌, ltb, eqb, length, set, Float, ⊤, Result, Ok, Err}
+use Rattle.std.specs.List.{list_any}
 use Rattle.std.specs.Float.Ieee.{lt}
 use Rattle.triple.specs.Sampled.{sample_width}
 use Rattle.refusals.specs.declared.Refusal.{Refusal}
@@ -26,9 +27,8 @@ is_misshapen times samples out = not (eqb (length samples % sample_width) 0) || 
 unfoldable pub is_outside : Ends → Float → Bool
 is_outside e t = lt t e.lower || lt e.upper t
 
-unfoldable pub any_outside : Ends → List Float → Bool
-any_outside e [] = false
-any_outside e (t ∷ ts) = is_outside e t || any_outside e ts
+abbrev pub any_outside : Ends → List Float → Bool
+any_outside e ts = list_any (is_outside e) ts
 
 -- 9, 3, 4
 unfoldable pub judged : List Float → List Float → List Float → Result ⊤ Refusal

@@ -33,14 +33,7 @@ fn any_outside(times: &[f64], samples: &[f64]) -> bool
     ensures { result ≡ any_outside (ends_of samples.now) times.now }
 {
     let ends = intervals::ends_of(samples);
-    let mut j = 0usize;
-    while j < times.len() {
-        if is_outside(ends, times[j]) {
-            return true;
-        }
-        j += 1;
-    }
-    false
+    times.iter().any(|t| is_outside(ends, *t))
 }
 
 #[tactic(auto, unfolding(crate::specs::Interpolation::judged))]

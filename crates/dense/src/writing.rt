@@ -52,9 +52,7 @@ pub fn write_all(times: &[f64], samples: &[f64], out: &mut [f64])
     ensures { out.new ≡ written_all samples.now 0 0 times.now out.old }
 {
     let mut k = 0usize;
-    let mut j = 0usize;
-    while j < times.len() {
-        k = write_next(j, times[j], k, samples, out);
-        j += 1;
+    for (j, t) in times.iter().enumerate() {
+        k = write_next(j, *t, k, samples, out);
     }
 }

@@ -67,17 +67,28 @@ fn is_short(forward: bool, time: f64, t: f64) -> bool
     if forward { time < t } else { time > t }
 }
 
-// The first sample that is not reached, or the count where all are. One after the other, since a table may stand in any order.
-fn first_past(forward: bool, samples: &[f64], t: f64) -> usize
-    ensures { result ≡ first_past forward samples.now t (count_of samples.now) 0 }
+// The first sample that is not reached, or the count where all are. One after the other, since a table may stand in any order. Each direction
+// has a loop of its own, which does not ask for it.
+fn search<const FORWARD: bool>(samples: &[f64], t: f64) -> usize
+    ensures { result ≡ first_past FORWARD samples.now t (count_of samples.now) 0 }
 {
     let count = table::count_of(samples);
     for n in 0..count {
-        if !is_reached(forward, table::time_of(samples, n), t) {
+        if !is_reached(FORWARD, table::time_of(samples, n), t) {
             return n;
         }
     }
     count
+}
+
+fn first_past(forward: bool, samples: &[f64], t: f64) -> usize
+    ensures { result ≡ first_past forward samples.now t (count_of samples.now) 0 }
+{
+    if forward {
+        search::<true>(samples, t)
+    } else {
+        search::<false>(samples, t)
+    }
 }
 
 // The interval of a single time.

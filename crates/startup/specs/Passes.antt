@@ -1,5 +1,5 @@
 -- 01, "Startup", 2 to 4: what a pass makes of the points, and when the passes stop.
-use Rattle.std.specs.Prelude.{ℕ, zero, suc, ◌+◌, ◌-◌, Bool, List, [], ◌∷◌, Float}
+use Rattle.std.specs.Prelude.{ℕ, zero, suc, ◌+◌, ◌-◌, Bool, List, [], ◌∷◌, ◌++◌, map, reverse, Float}
 use Rattle.std.specs.Float.{binary64}
 use Rattle.std.specs.Float.Ieee.{div, lt}
 use Rattle.triple.specs.declared.Triple.{Triple}
@@ -11,7 +11,6 @@ use Rattle.sums.specs.declared.Sums.{Sums}
 use Rattle.sums.specs.Sums.{epoch_sums, on_sums, back_sums, point_of}
 use Rattle.startup.specs.declared.Places.{Places}
 use Rattle.startup.specs.declared.Widest.{Widest}
-use Rattle.startup.specs.declared.passes.Four.{Four}
 use Rattle.startup.specs.Points.{state_at}
 
 -- the sums n points on from the epoch, at point 4 + n, and n points back, at point 4 - n
@@ -30,21 +29,21 @@ point_on n h x a = point_of (4 + n) h (sums_on n x a) a
 unfoldable pub point_back : ℕ → Float → Sums → List Triple → State
 point_back n h x a = point_of (4 - n) h (sums_back n x a) a
 
-unfoldable pub points_on : Float → Sums → List Triple → Four
-points_on h x a = record { one = point_on 1 h x a; two = point_on 2 h x a; three = point_on 3 h x a; four = point_on 4 h x a }
+unfoldable pub points_on : Float → Sums → List Triple → List State
+points_on h x a = point_on 1 h x a ∷ point_on 2 h x a ∷ point_on 3 h x a ∷ point_on 4 h x a ∷ []
 
-unfoldable pub points_back : Float → Sums → List Triple → Four
-points_back h x a = record { one = point_back 1 h x a; two = point_back 2 h x a; three = point_back 3 h x a; four = point_back 4 h x a }
+unfoldable pub points_back : Float → Sums → List Triple → List State
+points_back h x a = point_back 1 h x a ∷ point_back 2 h x a ∷ point_back 3 h x a ∷ point_back 4 h x a ∷ []
 
 -- "2. Each pass: s[4] = .., S[4] = ..", "3. For i not 4, all from the same a: v[i] = .., r[i] = .."
 unfoldable pub pass_places : Float → Places → List Triple → Places
 pass_places h p a =
     let x = epoch_sums h (state_at p 4) a in
-    let b = points_back h x a in
-    let f = points_on h x a in
+    let before = reverse (points_back h x a) in
+    let after = points_on h x a in
     record {
-      r = b.four.r ∷ b.three.r ∷ b.two.r ∷ b.one.r ∷ at p.r 4 ∷ f.one.r ∷ f.two.r ∷ f.three.r ∷ f.four.r ∷ [];
-      v = b.four.v ∷ b.three.v ∷ b.two.v ∷ b.one.v ∷ at p.v 4 ∷ f.one.v ∷ f.two.v ∷ f.three.v ∷ f.four.v ∷ [];
+      r = map (λ (s : State). s.r) before ++ at p.r 4 ∷ map (λ (s : State). s.r) after;
+      v = map (λ (s : State). s.v) before ++ at p.v 4 ∷ map (λ (s : State). s.v) after;
     }
 
 -- after the startup: "s and S are worked out again from row 4 and walked from 4 to 8, S before s"

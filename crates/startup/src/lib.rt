@@ -30,45 +30,45 @@ pub struct Widest {
 pub fn time_at(t0: f64, h: f64, i: u8) -> f64
     ensures { result ≡ time_at t0 h i }
 {
-    t0 + ((i as f64) - 4.0) * h
+    t0 + (f64::from(i) - 4.0) * h
 }
 
 pub fn first_places(r0: Triple, v0: Triple) -> Places
     ensures { result ≡ first_places r0 v0 }
 {
-    let r = nine::replaced(nine::zeros(), 4, r0);
-    let v = nine::replaced(nine::zeros(), 4, v0);
-    Places { r, v }
+    Places {
+        r: nine::replaced(nine::zeros(), 4, r0),
+        v: nine::replaced(nine::zeros(), 4, v0),
+    }
 }
 
 pub fn state_at(places: Places, i: u8) -> State
     ensures { result ≡ state_at places i }
 {
-    let rs = places.r;
-    let vs = places.v;
-    let r = nine::element(rs, i as usize);
-    let v = nine::element(vs, i as usize);
-    State { r, v }
+    State {
+        r: nine::element(places.r, usize::from(i)),
+        v: nine::element(places.v, usize::from(i)),
+    }
 }
 
 // Point i, with its time.
 pub fn point_at(t0: f64, h: f64, places: Places, i: u8) -> Point
     ensures { result ≡ point_at t0 h places i }
 {
-    let x = state_at(places, i);
-    let t = time_at(t0, h, i);
-    let r = x.r;
-    let v = x.v;
-    Point { t, r, v }
+    let State { r, v } = state_at(places, i);
+    Point {
+        t: time_at(t0, h, i),
+        r,
+        v,
+    }
 }
 
 // The places with point i at x.
 pub fn place(i: u8, x: State, places: Places) -> Places
     ensures { result ≡ placed i x places }
 {
-    let rs = places.r;
-    let vs = places.v;
-    let r = nine::replaced(rs, i as usize, x.r);
-    let v = nine::replaced(vs, i as usize, x.v);
-    Places { r, v }
+    Places {
+        r: nine::replaced(places.r, usize::from(i), x.r),
+        v: nine::replaced(places.v, usize::from(i), x.v),
+    }
 }

@@ -1,93 +1,56 @@
 // SPDX-License-Identifier: MIT OR Apache-2.0
 // A startup pass: every point but the epoch corrected from the same accelerations, and the test that ends the passes.
-ghost use Rattle.std.specs.Prelude.{◌≡◌, [], ◌∷◌};
+ghost use Rattle.std.specs.Prelude.{◌≡◌};
 ghost use Rattle.startup.specs.Passes.{points_on, points_back, pass_places, last_sums, widened, calm_at, is_settled};
 
 use crate::{Places, Widest};
 use sums::Sums;
 use triple::{State, Triple};
 
-// Four points in a row, the nearest to the epoch first.
-#[derive(Clone, Copy)]
-pub struct Four {
-    pub one: State,
-    pub two: State,
-    pub three: State,
-    pub four: State,
-}
-
 // Points 5 to 8, each by its own sums.
-fn points_on(h: f64, epoch: Sums, a: [Triple; 9]) -> Four
+fn points_on(h: f64, epoch: Sums, a: [Triple; 9]) -> [State; 4]
     ensures { result ≡ points_on h epoch a }
 {
     let s5 = epoch.on(a[5]);
     let s6 = s5.on(a[6]);
     let s7 = s6.on(a[7]);
     let s8 = s7.on(a[8]);
-    let one = sums::point_of(5, h, s5, a);
-    let two = sums::point_of(6, h, s6, a);
-    let three = sums::point_of(7, h, s7, a);
-    let four = sums::point_of(8, h, s8, a);
-    Four {
-        one,
-        two,
-        three,
-        four,
-    }
+    [
+        sums::point_of(5, h, s5, a),
+        sums::point_of(6, h, s6, a),
+        sums::point_of(7, h, s7, a),
+        sums::point_of(8, h, s8, a),
+    ]
 }
 
 // Points 3 to 0, each by its own sums.
-fn points_back(h: f64, epoch: Sums, a: [Triple; 9]) -> Four
+fn points_back(h: f64, epoch: Sums, a: [Triple; 9]) -> [State; 4]
     ensures { result ≡ points_back h epoch a }
 {
     let s3 = epoch.back(a[4]);
     let s2 = s3.back(a[3]);
     let s1 = s2.back(a[2]);
     let s0 = s1.back(a[1]);
-    let one = sums::point_of(3, h, s3, a);
-    let two = sums::point_of(2, h, s2, a);
-    let three = sums::point_of(1, h, s1, a);
-    let four = sums::point_of(0, h, s0, a);
-    Four {
-        one,
-        two,
-        three,
-        four,
-    }
-}
-
-// Nine triples, in order.
-fn across(
-    p0: Triple,
-    p1: Triple,
-    p2: Triple,
-    p3: Triple,
-    p4: Triple,
-    p5: Triple,
-    p6: Triple,
-    p7: Triple,
-    p8: Triple,
-) -> [Triple; 9]
-    ensures { result ≡ p0 ∷ p1 ∷ p2 ∷ p3 ∷ p4 ∷ p5 ∷ p6 ∷ p7 ∷ p8 ∷ [] }
-{
-    [p0, p1, p2, p3, p4, p5, p6, p7, p8]
+    [
+        sums::point_of(3, h, s3, a),
+        sums::point_of(2, h, s2, a),
+        sums::point_of(1, h, s1, a),
+        sums::point_of(0, h, s0, a),
+    ]
 }
 
 // The places that a pass asks at: all corrected from the same a, the epoch kept.
 pub fn corrected(h: f64, places: Places, a: [Triple; 9]) -> Places
     ensures { result ≡ pass_places h places a }
 {
-    let epoch = crate::state_at(places, 4);
-    let sums = sums::at_epoch(h, epoch, a);
-    let b = points_back(h, sums, a);
-    let f = points_on(h, sums, a);
-    let r = across(
-        b.four.r, b.three.r, b.two.r, b.one.r, epoch.r, f.one.r, f.two.r, f.three.r, f.four.r,
-    );
-    let v = across(
-        b.four.v, b.three.v, b.two.v, b.one.v, epoch.v, f.one.v, f.two.v, f.three.v, f.four.v,
-    );
-    Places { r, v }
+    let p4 = crate::state_at(places, 4);
+    let sums = sums::at_epoch(h, p4, a);
+    let [p3, p2, p1, p0] = points_back(h, sums, a);
+    let [p5, p6, p7, p8] = points_on(h, sums, a);
+    Places {
+        r: [p0.r, p1.r, p2.r, p3.r, p4.r, p5.r, p6.r, p7.r, p8.r],
+        v: [p0.v, p1.v, p2.v, p3.v, p4.v, p5.v, p6.v, p7.v, p8.v],
+    }
 }
 
 // The sums at point 8, once the startup is done.

@@ -4,4 +4,4 @@ use Rattle.startup.proofs.first_places.Goals as goal
 
 pub returns : goal.returns
 unfolding first_places
-returns c = simp (c.replaced-v.ensures, c.zeros-2.ensures, c.replaced-r.ensures, c.zeros.ensures)
+returns c = simp (c.replaced-2.ensures, c.zeros-2.ensures, c.replaced.ensures, c.zeros.ensures)

@@ -4,4 +4,4 @@ use Rattle.startup.proofs.point_at.Goals as goal
 
 pub returns : goal.returns
 unfolding point_at state_at
-returns c = simp (c.time_at-t.ensures, c.state_at-x.ensures)
+returns c = simp (c.time_at.ensures, c.state_at.ensures)

@@ -4,4 +4,4 @@ use Rattle.startup.proofs.state_at.Goals as goal
 
 pub returns : goal.returns
 unfolding state_at
-returns c = simp (c.element-v.ensures, c.element-r.ensures)
+returns c = simp (c.element-2.ensures, c.from-2.ensures, c.element.ensures, c.from.ensures)

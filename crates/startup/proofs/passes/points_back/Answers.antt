@@ -5,4 +5,4 @@ use Rattle.startup.proofs.passes.points_back.Goals as goal
 pub returns : goal.returns
 unfolding points_back point_back sums_back
 returns c =
-    simp (c.point_of-four.ensures, c.point_of-three.ensures, c.point_of-two.ensures, c.point_of-one.ensures, c.back-s0.ensures, c.back-s1.ensures, c.back-s2.ensures, c.back-s3.ensures)
+    simp (c.point_of-4.ensures, c.point_of-3.ensures, c.point_of-2.ensures, c.point_of.ensures, c.back-s0.ensures, c.back-s1.ensures, c.back-s2.ensures, c.back-s3.ensures)
