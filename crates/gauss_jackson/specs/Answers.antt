@@ -26,7 +26,7 @@ use Rattle.run.specs.declared.waiting.Stage.TheVariants.{First}
 use Rattle.run.specs.declared.waiting.Waiting.{Waiting}
 use Rattle.run.specs.declared.waiting.Waiting.TheVariants.{Epoch, Forward, Backward, Survey, Pass, Step, Tail, TailSample, Ended, Unknown}
 use Rattle.conditions.specs.Conditions.{is_due, is_tail, is_at_rest}
-pub use Rattle.run.specs.Waiting.{next_count}
+unfoldable pub use Rattle.run.specs.Waiting.{next_count}
 use Rattle.run.specs.Waiting.{is_last, stage_after, mark_at, waits_at, next_point}
 use Rattle.run.specs.Questions.{question_at}
 use Rattle.run.specs.Moves.{fresh_body, surveyed, kept, moved_on, moved_back, pass_begun, renewed, pass_made, launched, predicted, tried, committed, end_of_tail}
