@@ -14,6 +14,7 @@ pub use plan::Settings;
 use plan::Verdict;
 use refusals::Refusal;
 pub use run::Run;
+use run::samples::Room;
 use run::{sound, waiting};
 use triple::Triple;
 
@@ -104,7 +105,8 @@ pub fn answer(run: Run, number: u16, a: Triple, from: u64, out: &mut [f64]) -> A
     if mark.count.number != number {
         return outcomes::refuse(run, Refusal::NotThatQuestion);
     }
-    taking::take(waiting::waits_at(mark), mark.count.next(), run.body, a, from, out)
+    let mut room = Room { from, numbers: out };
+    taking::take(waiting::waits_at(mark), mark.count.next(), run.body, a, &mut room)
 }
 
 // The open question of a run, told again; or 7 where none is open.
