@@ -106,7 +106,13 @@ pub fn answer(run: Run, number: u16, a: Triple, from: u64, out: &mut [f64]) -> A
         return outcomes::refuse(run, Refusal::NotThatQuestion);
     }
     let mut room = Room { from, numbers: out };
-    taking::take(waiting::waits_at(mark), mark.count.next(), run.body, a, &mut room)
+    taking::take(
+        waiting::waits_at(mark),
+        mark.count.next(),
+        run.body,
+        a,
+        &mut room,
+    )
 }
 
 // The open question of a run, told again; or 7 where none is open.

@@ -11,8 +11,8 @@ ghost use Rattle.gauss_jackson.specs.Answers.{Gives, asking, onward, startup_end
 use crate::{Answered, Outcome, advance, outcomes};
 use plan::limits;
 use refusals::Refusal;
-use run::waiting::{Stage, Waiting};
 use run::samples::Room;
+use run::waiting::{Stage, Waiting};
 use run::{Body, Count, moves, samples};
 use startup::passes;
 use triple::Triple;
@@ -113,13 +113,7 @@ fn take_backward(i: u8, s: Stage, count: Count, b: Body, a: Triple) -> Answered
     ensures { result ≡ rk4_taken (λ (t : Stage). Waiting.Backward i t) s count b a (backward_ended i count b a) }
 {
     if !s.is_last() {
-        return keep_on(
-            Waiting::Backward(i, s.after()),
-            s,
-            count,
-            b,
-            a,
-        );
+        return keep_on(Waiting::Backward(i, s.after()), s, count, b, a);
     }
     let next = moves::move_to(i, i - 1, -b.plan.h, b, a);
     if i > 1 {
