@@ -1,5 +1,5 @@
 -- What one call does: `started` and `answered` are what the contracts of `start` and `answer` cite. c counts the answers up to this one.
-use Rattle.std.specs.Prelude.{ℕ, ◌+◌, ◌-◌, cond, List, [], ◌∷◌, length, ◌==◌, nat_lt, Float, Ok, Err}
+use Rattle.std.specs.Prelude.{◌≡◌, ℕ, ◌+◌, ◌-◌, cond, List, [], ◌∷◌, length, ◌==◌, nat_lt, Float, Ok, Err}
 use Rattle.triple.specs.declared.Triple.{Triple}
 use Rattle.triple.specs.declared.State.{State}
 use Rattle.triple.specs.declared.Sample.{Sample}
@@ -29,6 +29,8 @@ use Rattle.run.specs.Waiting.{is_last, stage_after, mark_at, waits_at, next_poin
 use Rattle.run.specs.Questions.{question_at}
 use Rattle.run.specs.Moves.{fresh_body, surveyed, kept, moved_on, moved_back, pass_begun, renewed, pass_made, launched, predicted, tried, committed, end_of_tail}
 use Rattle.run.specs.Samples.{Room, has_room, put_all, start_samples, step_sample, last_sample}
+use Rattle.run.specs.Rooms.{Leaves}
+use Rattle.run.specs.declared.samples.Room.{Room as Lent}
 use Rattle.run.specs.Sound.{is_sound}
 
 -- ---- the run is ended: every ended run is the same, and holds nothing
@@ -83,6 +85,10 @@ pub record Given : Type 0 where
 
 abbrev pub quiet : Answered → Room → Given
 quiet x out = record { got = x; out = out }
+
+-- a call that was lent a room gives the answer x, and leaves the room so
+abbrev pub Gives : Given → Answered → (l m : Lent) → Type 0
+Gives g x l m = (x ≡ g.got) × Leaves l m g.out
 
 -- W-207: beside the outcome a call tells how many samples it stored
 unfoldable pub with_stored : ℕ → Answered → Answered

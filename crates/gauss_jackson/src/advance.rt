@@ -1,5 +1,6 @@
 // SPDX-License-Identifier: MIT OR Apache-2.0
-// What raises a count or an index: each is in range where `taking` calls it, and has a `requires` that says so.
+// What raises a count or an index: each is in range where `taking` calls it, and has a `requires` that says so. No type of smaller numbers
+// holds them, since a run is laid out as C has it.
 ghost use Rattle.std.specs.Prelude.{◌≡◌, ◌<◌};
 ghost use Rattle.run.specs.Limits.{ample};
 ghost use Rattle.run.specs.Tracks.{track_on};

@@ -13,6 +13,7 @@ ghost use Rattle.gauss_jackson.specs.declared.Outcome.TheVariants.{Refused};
 pub use plan::Settings;
 use refusals::Refusal;
 pub use run::Run;
+use run::samples::Room;
 use run::{sound, waiting};
 use triple::Triple;
 
@@ -103,7 +104,14 @@ pub fn answer(run: Run, number: u16, a: Triple, from: u64, out: &mut [f64]) -> A
     if mark.count.number != number {
         return outcomes::refuse(run, Refusal::NotThatQuestion);
     }
-    taking::take(waiting::waits_at(mark), mark.count.next(), run.body, a, from, out)
+    let mut room = Room { from, numbers: out };
+    taking::take(
+        waiting::waits_at(mark),
+        mark.count.next(),
+        run.body,
+        a,
+        &mut room,
+    )
 }
 
 // The open question of a run, told again; or 7 where none is open.

@@ -5,12 +5,13 @@ ghost use Rattle.plan.specs.Limits.{max_passes};
 ghost use Rattle.run.specs.Limits.{ample};
 ghost use Rattle.run.specs.Moves.{kept};
 ghost use Rattle.run.specs.Ready.{Ready};
-ghost use Rattle.run.specs.Samples.{tens, numbers_of};
-ghost use Rattle.gauss_jackson.specs.Answers.{asking, onward, startup_ended, step_ended, passes_on, pass_ended, rk4_taken, forward_ended, backward_ended, tail_ended, survey_taken, pass_taken, step_taken, last_taken, answered_at};
+ghost use Rattle.run.specs.Rooms.{room_of};
+ghost use Rattle.gauss_jackson.specs.Answers.{Gives, asking, onward, startup_ended, step_ended, passes_on, pass_ended, rk4_taken, forward_ended, backward_ended, tail_ended, survey_taken, pass_taken, step_taken, last_taken, answered_at};
 
 use crate::{Answered, Outcome, advance, outcomes};
 use plan::limits;
 use refusals::Refusal;
+use run::samples::Room;
 use run::waiting::{Stage, Waiting};
 use run::{Body, Count, moves, samples};
 use startup::passes;
@@ -36,58 +37,52 @@ fn onward(count: Count, b: Body) -> Answered
 
 // The startup is done: its five samples, if wanted, then the loop.
 #[tactic(auto, unfolding(crate::specs::Answers::startup_ended))]
-fn end_startup(count: Count, b: Body, from: u64, out: &mut [f64]) -> Answered
-    ensures { (result ≡ (startup_ended count b (tens from out.old)).got) × (out.new ≡ numbers_of (startup_ended count b (tens from out.old)).out) }
+fn end_startup(count: Count, b: Body, room: &mut Room) -> Answered
+    ensures { Gives (startup_ended count b (room_of room.old)) result room.old room.new }
 {
     let wanted = limits::wants_samples(b.plan.settings);
-    if !samples::has_place(wanted, from, 0, 5, out.len()) {
+    if !room.has_place(wanted, 0, 5) {
         return outcomes::end(Outcome::Refused(Refusal::SampleRoom));
     }
-    samples::keep_points(wanted, from, b, out);
+    room.keep_points(wanted, b);
     outcomes::tell_stored(wanted, 5, onward(count, moves::launch(b)))
 }
 
 // A step is made: its sample, if wanted, then the loop.
 #[tactic(auto, unfolding(crate::specs::Answers::step_ended))]
-fn end_step(count: Count, b: Body, from: u64, out: &mut [f64]) -> Answered
-    ensures { (result ≡ (step_ended count b (tens from out.old)).got) × (out.new ≡ numbers_of (step_ended count b (tens from out.old)).out) }
+fn end_step(count: Count, b: Body, room: &mut Room) -> Answered
+    ensures { Gives (step_ended count b (room_of room.old)) result room.old room.new }
 {
     let wanted = limits::wants_samples(b.plan.settings);
-    if !samples::has_place(wanted, from, b.track.steps, 1, out.len()) {
+    if !room.has_place(wanted, b.track.steps, 1) {
         return outcomes::end(Outcome::Refused(Refusal::SampleRoom));
     }
-    samples::keep_sample(
-        wanted,
-        from,
-        b.track.steps,
-        samples::step_sample(b.track, b.a),
-        out,
-    );
+    room.keep_sample(wanted, b.track.steps, samples::step_sample(b.track, b.a));
     outcomes::tell_stored(wanted, 1, onward(count, b))
 }
 
 // The head of the startup passes.
-#[tactic(auto, unfolding(crate::specs::Answers::passes_on, run::specs::Samples::numbers_of))]
-fn passes_on(count: Count, b: Body, from: u64, out: &mut [f64]) -> Answered
-    ensures { (result ≡ (passes_on count b (tens from out.old)).got) × (out.new ≡ numbers_of (passes_on count b (tens from out.old)).out) }
+#[tactic(auto, unfolding(crate::specs::Answers::passes_on))]
+fn passes_on(count: Count, b: Body, room: &mut Room) -> Answered
+    ensures { Gives (passes_on count b (room_of room.old)) result room.old room.new }
 {
     if b.startup_iters < b.plan.settings.max_startup_iters {
         return outcomes::ask(Waiting::Pass(0), count, moves::begin_pass(b));
     }
-    end_startup(count, b, from, out)
+    end_startup(count, b, room)
 }
 
 // A startup pass has all its accelerations.
 #[tactic(auto, unfolding(crate::specs::Answers::pass_ended))]
-fn end_pass(count: Count, b: Body, from: u64, out: &mut [f64]) -> Answered
+fn end_pass(count: Count, b: Body, room: &mut Room) -> Answered
     requires { b.startup_iters < ample }
-    ensures { (result ≡ (pass_ended count b (tens from out.old)).got) × (out.new ≡ numbers_of (pass_ended count b (tens from out.old)).out) }
+    ensures { Gives (pass_ended count b (room_of room.old)) result room.old room.new }
 {
     let next = advance::end_pass(b);
     if passes::is_settled(b.plan.settings.startup_tol, b.widest) {
-        return end_startup(count, next, from, out);
+        return end_startup(count, next, room);
     }
-    passes_on(count, next, from, out)
+    passes_on(count, next, room)
 }
 
 // An RK4 step has one acceleration more, and its next question stands at w.
@@ -118,13 +113,7 @@ fn take_backward(i: u8, s: Stage, count: Count, b: Body, a: Triple) -> Answered
     ensures { result ≡ rk4_taken (λ (t : Stage). Waiting.Backward i t) s count b a (backward_ended i count b a) }
 {
     if !s.is_last() {
-        return keep_on(
-            Waiting::Backward(i, s.after()),
-            s,
-            count,
-            b,
-            a,
-        );
+        return keep_on(Waiting::Backward(i, s.after()), s, count, b, a);
     }
     let next = moves::move_to(i, i - 1, -b.plan.h, b, a);
     if i > 1 {
@@ -133,42 +122,42 @@ fn take_backward(i: u8, s: Stage, count: Count, b: Body, a: Triple) -> Answered
     outcomes::ask(Waiting::Survey(0), count, next)
 }
 
-#[tactic(auto, unfolding(crate::specs::Answers::survey_taken, run::specs::Samples::numbers_of))]
-fn take_survey(i: u8, count: Count, b: Body, a: Triple, from: u64, out: &mut [f64]) -> Answered
-    ensures { (result ≡ (survey_taken i count b a (tens from out.old)).got) × (out.new ≡ numbers_of (survey_taken i count b a (tens from out.old)).out) }
+#[tactic(auto, unfolding(crate::specs::Answers::survey_taken))]
+fn take_survey(i: u8, count: Count, b: Body, a: Triple, room: &mut Room) -> Answered
+    ensures { Gives (survey_taken i count b a (room_of room.old)) result room.old room.new }
 {
     let next = moves::survey(i, b, a);
     if i < 8 {
         return outcomes::ask(Waiting::Survey(advance::point_after(i)), count, next);
     }
-    passes_on(count, next, from, out)
+    passes_on(count, next, room)
 }
 
-#[tactic(auto, unfolding(crate::specs::Answers::pass_taken, run::specs::Samples::numbers_of))]
-fn take_pass(i: u8, count: Count, b: Body, a: Triple, from: u64, out: &mut [f64]) -> Answered
+#[tactic(auto, unfolding(crate::specs::Answers::pass_taken))]
+fn take_pass(i: u8, count: Count, b: Body, a: Triple, room: &mut Room) -> Answered
     requires { b.startup_iters < ample }
-    ensures { (result ≡ (pass_taken i count b a (tens from out.old)).got) × (out.new ≡ numbers_of (pass_taken i count b a (tens from out.old)).out) }
+    ensures { Gives (pass_taken i count b a (room_of room.old)) result room.old room.new }
 {
     let next = moves::renew(i, b, a);
     if i < 8 {
         return outcomes::ask(Waiting::Pass(advance::point_after(i)), count, next);
     }
-    end_pass(count, next, from, out)
+    end_pass(count, next, room)
 }
 
 // An answer at a step's end, after n corrector passes.
-#[tactic(auto, unfolding(crate::specs::Answers::step_taken, run::specs::Samples::numbers_of))]
-fn take_step(n: u8, count: Count, b: Body, a: Triple, from: u64, out: &mut [f64]) -> Answered
+#[tactic(auto, unfolding(crate::specs::Answers::step_taken))]
+fn take_step(n: u8, count: Count, b: Body, a: Triple, room: &mut Room) -> Answered
     requires { (b.plan.settings.max_corrector_iters ≤ max_passes) × (b.track.steps < ample) }
-    ensures { (result ≡ (step_taken n count b a (tens from out.old)).got) × (out.new ≡ numbers_of (step_taken n count b a (tens from out.old)).out) }
+    ensures { Gives (step_taken n count b a (room_of room.old)) result room.old room.new }
 {
     let before = b.trial.state;
     if (n as u64) >= b.plan.settings.max_corrector_iters {
-        return end_step(count, advance::commit(b, before, a), from, out);
+        return end_step(count, advance::commit(b, before, a), room);
     }
     let after = sums::corrected(b.plan.h, b.track.sums, b.trial.fixed, a);
     if conditions::is_at_rest(b.plan.settings.corrector_tol, before, after) {
-        return end_step(count, advance::commit(b, after, a), from, out);
+        return end_step(count, advance::commit(b, after, a), room);
     }
     outcomes::ask(Waiting::Step(n + 1), count, moves::try_state(b, after))
 }
@@ -190,25 +179,25 @@ fn take_tail(s: Stage, count: Count, b: Body, a: Triple) -> Answered
 
 // The tail's sample has its acceleration.
 #[tactic(auto, unfolding(crate::specs::Answers::last_taken))]
-fn take_last(count: Count, b: Body, a: Triple, from: u64, out: &mut [f64]) -> Answered
+fn take_last(count: Count, b: Body, a: Triple, room: &mut Room) -> Answered
     requires { b.track.steps < ample }
-    ensures { (result ≡ (last_taken count b a (tens from out.old)).got) × (out.new ≡ numbers_of (last_taken count b a (tens from out.old)).out) }
+    ensures { Gives (last_taken count b a (room_of room.old)) result room.old room.new }
 {
     let n = b.track.steps + 1;
     let wanted = limits::wants_samples(b.plan.settings);
-    if !samples::has_place(wanted, from, n, 1, out.len()) {
+    if !room.has_place(wanted, n, 1) {
         return outcomes::end(Outcome::Refused(Refusal::SampleRoom));
     }
-    samples::keep_sample(wanted, from, n, samples::last_sample(b, a), out);
+    room.keep_sample(wanted, n, samples::last_sample(b, a));
     let done = outcomes::end(outcomes::solution_of(b.plan.tf, b.trial.state, count, n, b));
     outcomes::tell_stored(wanted, 1, done)
 }
 
 // The right answer at waiting point w of a sound run.
-#[tactic(auto, unfolding(crate::specs::Answers::answered_at, run::specs::Samples::numbers_of))]
-pub fn take(w: Waiting, count: Count, b: Body, a: Triple, from: u64, out: &mut [f64]) -> Answered
+#[tactic(auto, unfolding(crate::specs::Answers::answered_at))]
+pub fn take(w: Waiting, count: Count, b: Body, a: Triple, room: &mut Room) -> Answered
     requires { Ready w b }
-    ensures { (result ≡ (answered_at w count b a (tens from out.old)).got) × (out.new ≡ numbers_of (answered_at w count b a (tens from out.old)).out) }
+    ensures { Gives (answered_at w count b a (room_of room.old)) result room.old room.new }
 {
     match w {
         Waiting::Epoch => outcomes::ask(
@@ -218,11 +207,11 @@ pub fn take(w: Waiting, count: Count, b: Body, a: Triple, from: u64, out: &mut [
         ),
         Waiting::Forward(i, s) => take_forward(i, s, count, b, a),
         Waiting::Backward(i, s) => take_backward(i, s, count, b, a),
-        Waiting::Survey(i) => take_survey(i, count, b, a, from, out),
-        Waiting::Pass(i) => take_pass(i, count, b, a, from, out),
-        Waiting::Step(n) => take_step(n, count, b, a, from, out),
+        Waiting::Survey(i) => take_survey(i, count, b, a, room),
+        Waiting::Pass(i) => take_pass(i, count, b, a, room),
+        Waiting::Step(n) => take_step(n, count, b, a, room),
         Waiting::Tail(s) => take_tail(s, count, b, a),
-        Waiting::TailSample => take_last(count, b, a, from, out),
+        Waiting::TailSample => take_last(count, b, a, room),
         Waiting::Ended | Waiting::Unknown => outcomes::end(Outcome::Refused(Refusal::NoQuestion)),
     }
 }

@@ -4,5 +4,6 @@ pub mod Waiting
 pub mod Questions
 pub mod Moves
 pub mod Samples
+pub mod Rooms
 pub mod Sound
 pub mod Ready

@@ -3,10 +3,19 @@
 // never one without its place.
 ghost use Rattle.std.specs.Prelude.{◌≡◌, ◌+◌, ◌≤◌, length};
 ghost use Rattle.triple.specs.Sampled.{sample_width};
-ghost use Rattle.run.specs.Samples.{is_placed, has_place, written, kept_sample, grid_sample, kept_point, kept_points, step_sample, last_sample};
+ghost use Rattle.run.specs.Rooms.{Leaves};
+ghost use Rattle.run.specs.Samples.{tens, is_placed, has_place, written, kept_sample, grid_sample, kept_point, kept_points, step_sample, last_sample};
 
 use crate::{Body, Track, questions};
 use triple::{SAMPLE_WIDTH, Sample, Triple, nine};
+
+// The room that a call lends: the sample that it begins at, and its numbers. The functions by parts are for `fastpath` and `flight`, which
+// ask before a room is at hand.
+#[derive(Drop)]
+pub struct Room<'a> {
+    pub from: u64,
+    pub numbers: &'a mut [f64],
+}
 
 // Whether samples n to n + m - 1 have their place among so many numbers: by a quotient, since a product could wrap.
 fn is_placed(from: u64, n: u64, m: u64, room: usize) -> bool
@@ -63,25 +72,39 @@ fn grid_sample(b: Body, i: u8) -> Sample
     questions::grid_point(b, i).with(nine::element(b.a, i as usize))
 }
 
-// Point i of the startup, from 4 on, as sample i - 4.
-#[tactic(auto, unfolding(crate::specs::Samples::kept_point))]
-fn keep_point(wanted: bool, from: u64, b: Body, i: u8, out: &mut [f64])
-    requires { 4 ≤ i }
-    ensures { out.new ≡ kept_point wanted from b.plan b.places b.a i out.old }
-{
-    keep_sample(wanted, from, (i - 4) as u64, grid_sample(b, i), out);
-}
+impl Room<'_> {
+    pub fn has_place(&self, wanted: bool, n: u64, m: u64) -> bool
+        ensures { result ≡ has_place wanted self.now.from n m (length self.now.numbers.now) }
+    {
+        has_place(wanted, self.from, n, m, self.numbers.len())
+    }
 
-// Points 4 to 8 of the startup, as samples 0 to 4.
-#[tactic(auto, unfolding(crate::specs::Samples::kept_points))]
-pub fn keep_points(wanted: bool, from: u64, b: Body, out: &mut [f64])
-    ensures { out.new ≡ kept_points wanted from b.plan b.places b.a out.old }
-{
-    keep_point(wanted, from, b, 4, out);
-    keep_point(wanted, from, b, 5, out);
-    keep_point(wanted, from, b, 6, out);
-    keep_point(wanted, from, b, 7, out);
-    keep_point(wanted, from, b, 8, out);
+    pub fn keep_sample(&mut self, wanted: bool, n: u64, s: Sample)
+        ensures { Leaves self.old self.new (tens self.old.from (kept_sample wanted self.old.from n s self.old.numbers.now)) }
+    {
+        keep_sample(wanted, self.from, n, s, self.numbers);
+    }
+
+    // Point i of the startup, from 4 on, as sample i - 4.
+    #[tactic(auto, unfolding(crate::specs::Samples::kept_point))]
+    fn keep_point(&mut self, wanted: bool, b: Body, i: u8)
+        requires { 4 ≤ i }
+        ensures { Leaves self.old self.new (tens self.old.from (kept_point wanted self.old.from b.plan b.places b.a i self.old.numbers.now)) }
+    {
+        self.keep_sample(wanted, (i - 4) as u64, grid_sample(b, i));
+    }
+
+    // Points 4 to 8 of the startup, as samples 0 to 4.
+    #[tactic(auto, unfolding(crate::specs::Samples::kept_points))]
+    pub fn keep_points(&mut self, wanted: bool, b: Body)
+        ensures { Leaves self.old self.new (tens self.old.from (kept_points wanted self.old.from b.plan b.places b.a self.old.numbers.now)) }
+    {
+        self.keep_point(wanted, b, 4);
+        self.keep_point(wanted, b, 5);
+        self.keep_point(wanted, b, 6);
+        self.keep_point(wanted, b, 7);
+        self.keep_point(wanted, b, 8);
+    }
 }
 
 // The newest point, with the newest of the accelerations.

@@ -19,7 +19,8 @@ pub fn is_sound(run: Run) -> bool
         return false;
     }
     let count = run.mark.count;
-    (count.number as u64) == count.evals % NUMBERING && has_counts(waiting::waits_at(run.mark), count.evals, run.body)
+    (count.number as u64) == count.evals % NUMBERING
+        && has_counts(waiting::waits_at(run.mark), count.evals, run.body)
 }
 
 // No startup pass is made, and no step.
@@ -30,6 +31,7 @@ fn is_idle(b: Body) -> bool
     b.startup_iters == 0 && b.track.steps == 0
 }
 
+// Forward and back stay two functions here and in `taking`: each number in them differs, and so does what follows the last point.
 #[tactic(auto, unfolding(crate::specs::Sound::forward_counts))]
 fn forward_counts(i: u8, s: Stage, e: u64) -> bool
     ensures { result ≡ forward_counts i s e }
@@ -61,6 +63,8 @@ fn point_counts(i: u8, before: u64, e: u64) -> bool
     i <= 8 && i != 4 && e == before + rank_of(i)
 }
 
+// `Small` stays a `requires`: a type that holds it would be a second copy of the settings, which a body and a plan have as they came, and each
+// contract would have to say that they are the same.
 #[tactic(auto, unfolding(crate::specs::Sound::pass_counts))]
 fn pass_counts(i: u8, e: u64, b: Body) -> bool
     requires { Small b.plan.settings }

@@ -60,6 +60,7 @@ impl TryFrom<u8> for Stage {
 
     ghost try_from_gives = { λ n r. r ≡ stage_read n };
 
+    #[tactic(auto, unfolding(crate::specs::Waiting::stage_read, crate::specs::Waiting::stage_from))]
     fn try_from(n: u8) -> Result<Self, UnknownStage> {
         match n {
             0 => Ok(Stage::First),
@@ -139,6 +140,7 @@ pub fn mark_at(w: Waiting, count: Count) -> Mark
 }
 
 // The waiting point that a mark's numbers mean.
+#[tactic(auto, unfolding(crate::specs::Waiting::waits_at, crate::specs::Waiting::waiting_at, crate::specs::Waiting::stage_read))]
 pub fn waits_at(m: Mark) -> Waiting
     ensures { result ≡ waits_at m }
 {
