@@ -7,7 +7,7 @@ ghost use Rattle.std.specs.Prelude.{◌≡◌, ◌≤◌, length};
 ghost use Rattle.lines.specs.Put.{over as put_over};
 ghost use Rattle.forecaster.specs.Printed.{settings_with};
 ghost use Rattle.flight.specs.Flight.{flown_on};
-ghost use Rattle.forecaster.specs.Pieces.{is_over, longest_piece, begun_with, begun, blank_room, forecast_of, flown_piece, unread_piece, piece_in};
+ghost use Rattle.forecaster.specs.Pieces.{is_over, longest_piece, begun_with, begun, blank_room, flown_piece, unread_piece, piece_in};
 
 use flight::{Flight, Phase};
 use plan::Settings;
@@ -99,16 +99,6 @@ fn print_unread(out: &mut [u8]) -> Printed
     }
 }
 
-// The forecast of a flight that told a piece.
-fn forecast_of(flight: Flight) -> Forecast
-    ensures { result ≡ forecast_of flight }
-{
-    match flight.phase {
-        Phase::Asks(_question) => Forecast::Flying(flight),
-        Phase::Over(_ending) => Forecast::Over,
-    }
-}
-
 // A piece of a flight.
 fn print_flown(before: Flight, out: &mut [u8]) -> Printed
     requires { longest_piece ≤ length out.old }
@@ -121,7 +111,10 @@ fn print_flown(before: Flight, out: &mut [u8]) -> Printed
     let after = flight::fly_on(before, &mut room);
     let told = after.next - from;
     let count = rows::put_told(from, told, after.phase, &room, out);
-    let forecast = forecast_of(after);
+    let forecast = match after.phase {
+        Phase::Asks(_question) => Forecast::Flying(after),
+        Phase::Over(_ending) => Forecast::Over,
+    };
     Printed { forecast, count }
 }
 
