@@ -56,13 +56,3 @@ module _ {A : Type 0} where
   filled_on f m (suc n) l =
       let e : suc (m + n) ≡ m + suc n = omega arith in
       ap (λ (x : List A). set x (m + n) (f (m + n))) (filled_on f m n l) ∙ ap (λ (k : ℕ). filled f k l) e
-
-  -- in four goes of 126, as the content of four blocks
-  pub four_filled : (f : ℕ → A) (l : List A)
-      → filled_from f 378 126 (filled_from f 252 126 (filled_from f 126 126 (filled_from f 0 126 l))) ≡ filled f 504 l
-  unfolding filled
-  four_filled f l =
-      ap (λ (x : List A). filled_from f 378 126 (filled_from f 252 126 (filled_from f 126 126 x))) (filled_on f 0 126 l)
-      ∙ ap (λ (x : List A). filled_from f 378 126 (filled_from f 252 126 x)) (filled_on f 126 126 l)
-      ∙ ap (filled_from f 378 126) (filled_on f 252 126 l)
-      ∙ filled_on f 378 126 l

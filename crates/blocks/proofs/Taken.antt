@@ -1,7 +1,7 @@
 -- Words taken from the bytes one after another are the content.
-use Rattle.std.proofs.Common.{◌≡◌, ℕ, suc, ◌+◌, ◌*◌, ◌/◌, ◌%◌, ◌^◌, ◌<◌, List, set, ap, arith}
+use Rattle.std.proofs.Common.{◌≡◌, ℕ, zero, suc, Bool, true, ◌&&◌, ◌+◌, ◌*◌, ◌/◌, ◌%◌, ◌^◌, ◌<◌, List, set, ap, arith}
 use Rattle.blocks.specs.Rows.{filled_from}
-use Rattle.blocks.specs.Blocks.{word_at, check, content_at}
+use Rattle.blocks.specs.Blocks.{word_at, check, block_is_whole, content_at}
 
 -- one word more of block b
 pub check_more : (bytes : List ℕ) (b j : ℕ)
@@ -19,3 +19,8 @@ unfolding filled_from content_at
 filled_more bytes b j l h =
     let e : 128 * ((126 * b + j) / 126) + 1 + (126 * b + j) % 126 ≡ 128 * b + 1 + j = omega arith in
     ap (λ (i : ℕ). set (filled_from (content_at bytes) (126 * b) j l) (126 * b + j) (word_at bytes i)) e
+
+-- the first n blocks are whole
+abbrev pub whole_so_far : List ℕ → ℕ → Bool
+whole_so_far bytes zero = true
+whole_so_far bytes (suc n) = whole_so_far bytes n && block_is_whole bytes n

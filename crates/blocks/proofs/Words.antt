@@ -1,5 +1,6 @@
 -- Words put into bytes one after another are the bytes of the form.
-use Rattle.std.proofs.Common.{◌≡◌, ℕ, zero, suc, ◌+◌, ◌-◌, ◌*◌, ◌/◌, ◌%◌, ◌^◌, ◌<◌, List, length, get_or, sym, refl, ap, ◌∙◌, ap₂, arith, length-set, ne_eqb}
+use Rattle.std.proofs.Common.{◌≡◌, ℕ, zero, suc, ◌+◌, ◌-◌, ◌*◌, ◌/◌, ◌%◌, ◌^◌, ◌<◌, ◌≤◌, List, [], ◌∷◌, length, get_or, set, sym, refl, ap, ◌∙◌, ap₂, arith, length-set, ne_eqb}
+use borrow.Rule.Slice.PartMut.{put_mid}
 use Rattle.blocks.specs.Rows.{filled}
 use Rattle.blocks.specs.Words.{put_word, put_words}
 use Rattle.blocks.specs.Blocks.{little_endian, block_word, check, form_word, form_byte, form}
@@ -8,6 +9,21 @@ use Rattle.blocks.proofs.Filled.{filled_row}
 pub length_put : (l : List ℕ) (i w : ℕ) → length (put_word l i w) ≡ length l
 unfolding put_word
 length_put l i w = simp length-set
+
+-- four bytes at a time, or one after the other
+pub put_four : (k : ℕ) (l : List ℕ) (a b c d : ℕ) → k + 4 ≤ length l
+    → put_mid k 4 l (a ∷ b ∷ c ∷ d ∷ []) ≡ set (set (set (set l k a) (k + 1) b) (k + 2) c) (k + 3) d
+put_four zero [] a b c d h = absurd (omega arith)
+put_four zero (x ∷ []) a b c d h = absurd (omega arith)
+put_four zero (x ∷ y ∷ []) a b c d h = absurd (omega arith)
+put_four zero (x ∷ y ∷ z ∷ []) a b c d h = absurd (omega arith)
+put_four zero (x ∷ y ∷ z ∷ u ∷ l) a b c d h = refl
+put_four (suc k) [] a b c d h = absurd (omega arith)
+put_four (suc k) (x ∷ l) a b c d h =
+    let e₁ : suc k + 1 ≡ suc (k + 1) = omega arith in
+    let e₂ : suc k + 2 ≡ suc (k + 2) = omega arith in
+    let e₃ : suc k + 3 ≡ suc (k + 3) = omega arith in
+    rw (e₁, e₂, e₃) (ap (λ (t : List ℕ). x ∷ t) (put_four k l a b c d (omega arith)))
 
 -- words put in two goes
 pub puts_on : (word : ℕ → ℕ) (i m n : ℕ) (l : List ℕ) → put_words word (i + m) n (put_words word i m l) ≡ put_words word i (m + n) l
@@ -105,15 +121,7 @@ puts_filled content (suc n) l =
     let e : 0 + n ≡ n = omega arith in
     rw e (ap (λ (x : List ℕ). put_word x n (form_word content n)) (puts_filled content n l) ∙ sym (filled_word content n l))
 
--- four blocks are the form
-pub form_put : (content l : List ℕ) → length l ≡ 2048
-    → put_words (form_word content) 384 128 (put_words (form_word content) 256 128 (put_words (form_word content) 128 128 (put_words (form_word content) 0 128 l)))
-    ≡ form content
+-- so many words are the form
+pub form_put : (content l : List ℕ) → length l ≡ 2048 → put_words (form_word content) 0 512 l ≡ form content
 unfolding form
-form_put content l e =
-    let w = form_word content in
-    ap (λ (x : List ℕ). put_words w 384 128 (put_words w 256 128 x)) (puts_on w 0 128 128 l)
-    ∙ ap (put_words w 384 128) (puts_on w 0 256 128 l)
-    ∙ puts_on w 0 384 128 l
-    ∙ puts_filled content 512 l
-    ∙ filled_row (form_byte content) 2048 l 0 e
+form_put content l e = puts_filled content 512 l ∙ filled_row (form_byte content) 2048 l 0 e

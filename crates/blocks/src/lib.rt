@@ -14,10 +14,10 @@ pub fn write_to(content: &[u32; 504], out: &mut [u8]) -> bool
     ensures value { result ≡ (length out.old == 2048) }
     ensures out_after { out.new ≡ written content.now out.old }
 {
-    if out.len() != 2048 {
+    let Some(form) = out.as_mut_array::<2048>() else {
         return false;
-    }
-    writing::write_form(content, out);
+    };
+    writing::write_form(content, form);
     true
 }
 
@@ -26,8 +26,8 @@ pub fn read_into(bytes: &[u8], content: &mut [u32; 504]) -> bool
     ensures value { result ≡ is_whole bytes.now }
     ensures content_after { content.new ≡ taken bytes.now content.old }
 {
-    if bytes.len() != 2048 {
+    let Some(form) = bytes.as_array::<2048>() else {
         return false;
-    }
-    reading::read_form(bytes, content)
+    };
+    reading::read_form(form, content)
 }

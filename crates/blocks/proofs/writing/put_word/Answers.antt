@@ -1,17 +1,12 @@
--- `put_word` is `put_word`.
-use Rattle.std.proofs.Common.{arith, length-set, rules}
+-- `put_word` is `put_word`: its four bytes at once.
+use Rattle.std.proofs.Common.{◌≡◌, ◌+◌, ◌-◌, ◌*◌, arith, rules}
 use Rattle.blocks.specs.Words.{put_word}
+use Rattle.blocks.proofs.Words.{put_four}
 use Rattle.blocks.proofs.writing.put_word.Goals as goal
-
-pub bounds-out-k-2 : goal.bounds-out-k-2
-bounds-out-k-2 c = simp length-set (omega arith)
-
-pub bounds-out-k-3 : goal.bounds-out-k-3
-bounds-out-k-3 c = simp length-set (omega arith)
-
-pub bounds-out-k-4 : goal.bounds-out-k-4
-bounds-out-k-4 c = simp length-set (omega arith)
 
 pub returns : goal.returns
 unfolding put_word
-returns c = search rules
+returns c =
+    let i = c.args.i in
+    let e : 4 * i + 4 - 4 * i ≡ 4 = omega arith in
+    rw (e, c.copy_from_slice.ensures.after, c.to_le_bytes.ensures) (put_four (4 * i) c.args.out.now _ _ _ _ (search rules))
