@@ -1,6 +1,6 @@
 -- W-201's two calls. "Refusals: storing gives 7 for an ended or made-up run, then 10 for a buffer that is not 2,048 bytes, which stays untouched; loading
 -- gives 10 for a wrong length, block number or check, then 11" for what is no run (`is_stored_run`).
-use Rattle.std.specs.Prelude.{ℕ, cond, List, eqb, length, ⊤, Option, Some, None, ok_or, Result, Ok, Err}
+use Rattle.std.specs.Prelude.{ℕ, cond, List, eqb, length, ⊤, Result, Ok, Err}
 use Rattle.refusals.specs.declared.Refusal.{Refusal}
 use Rattle.refusals.specs.declared.Refusal.TheVariants.{NoQuestion, StoredShape, StoredContent}
 use Rattle.run.specs.declared.Run.{Run}
@@ -18,12 +18,10 @@ storing run out = cond (is_sound run) (cond (eqb (length out) 2048) (Ok tt) (Err
 unfoldable pub stored_in : Run → (out : List ℕ) → List ℕ
 stored_in run out = cond (is_sound run) (written (content_of_run run) out) out
 
--- ---- reading: the run of a content, if it is one; the run of a form, or 10, then 11
-unfoldable pub run_in : (content : List ℕ) → Option Run
-run_in c = cond (is_stored_run c) (Some (run_of c)) None
-
+-- ---- reading: the run of a form; or 10, then 11
 unfoldable pub read_run : (bytes : List ℕ) → Result Run Refusal
-read_run bytes = cond (is_whole bytes) (ok_or (run_in (content_of bytes)) StoredContent) (Err StoredShape)
+read_run bytes =
+    cond (is_whole bytes) (cond (is_stored_run (content_of bytes)) (Ok (run_of (content_of bytes))) (Err StoredContent)) (Err StoredShape)
 
 -- ---- loading: the run with its open question; or the refusal, and the run that the caller holds stays as it was
 unfoldable pub taken_up : Run → Answered

@@ -3,7 +3,7 @@
 #![tactic(auto)]
 
 ghost use Rattle.std.specs.Prelude.{◌≡◌};
-ghost use Rattle.stored.specs.Stored.{storing, stored_in, run_in, read_run, loaded};
+ghost use Rattle.stored.specs.Stored.{storing, stored_in, read_run, loaded};
 
 use gauss_jackson::{Answered, Outcome};
 use refusals::Refusal;
@@ -31,24 +31,8 @@ pub fn store(run: Run, out: &mut [u8]) -> Result<(), Refusal>
     }
 }
 
-// The run of a content, if it is one.
-#[tactic(auto, unfolding(crate::specs::Stored::run_in, crate::specs::Taken::is_stored_run))]
-fn run_in(words: &[u32; 504]) -> Option<Run>
-    ensures { result ≡ run_in words.now }
-{
-    if !judging::is_known(words) {
-        return None;
-    }
-    let run = judging::run_of(words);
-    if judging::is_unused_zero(words, run.mark) && sound::is_sound(run) {
-        Some(run)
-    } else {
-        None
-    }
-}
-
 // The run of a stored form; or 10, then 11.
-#[tactic(auto, using(blocks::proofs::Whole::whole_taken), unfolding(crate::specs::Stored::read_run))]
+#[tactic(auto, using(blocks::proofs::Whole::whole_taken), unfolding(crate::specs::Stored::read_run, crate::specs::Taken::is_stored_run))]
 fn read_run(bytes: &[u8]) -> Result<Run, Refusal>
     ensures { result ≡ read_run bytes.now }
 {
@@ -56,11 +40,19 @@ fn read_run(bytes: &[u8]) -> Result<Run, Refusal>
     if !blocks::read_into(bytes, &mut words) {
         return Err(Refusal::StoredShape);
     }
-    run_in(&words).ok_or(Refusal::StoredContent)
+    if !judging::is_known(&words) {
+        return Err(Refusal::StoredContent);
+    }
+    let run = judging::run_of(&words);
+    if judging::is_unused_zero(&words, run.mark) && sound::is_sound(run) {
+        Ok(run)
+    } else {
+        Err(Refusal::StoredContent)
+    }
 }
 
 // The run of a stored form with its open question; or 10, then 11, and then `held`, the run that the caller has, comes back as it was.
-#[tactic(auto, unfolding(crate::specs::Stored::run_in, crate::specs::Stored::read_run, crate::specs::Stored::loaded, crate::specs::Stored::judged, crate::specs::Stored::taken_up, gauss_jackson::specs::Answers::refusing))]
+#[tactic(auto, unfolding(crate::specs::Stored::read_run, crate::specs::Stored::loaded, crate::specs::Stored::judged, crate::specs::Stored::taken_up, gauss_jackson::specs::Answers::refusing))]
 pub fn load(held: Run, bytes: &[u8]) -> Answered
     ensures { result ≡ loaded held bytes.now }
 {
