@@ -21,7 +21,7 @@ use Rattle.triple.proofs.Signs.{double_size}
 use Rattle.rk4.specs.Rk4.{end_of_step}
 use Rattle.sums.specs.declared.Sums.{Sums}
 use Rattle.sums.specs.declared.Fixed.{Fixed}
-use Rattle.sums.specs.Weighted.{weighted_next, fixed_a, fixed_b}
+use Rattle.sums.specs.Weighted.{weighted, weighted_next, fixed_sum}
 use Rattle.sums.specs.Sums.{on_sums, point_of, predicted_state, fixed_of, corrected_state}
 use Rattle.startup.specs.declared.Places.{Places}
 use Rattle.startup.specs.declared.Widest.{Widest}
@@ -75,7 +75,7 @@ unfolding corrected_state
 corrected_fit h u f b = record { r = times_fit _ _; v = times_fit _ _ }
 
 pub fixed_fit : (a : List Triple) → Fit (fixed_of a).fa × Fit (fixed_of a).fb
-unfolding fixed_of fixed_a fixed_b weighted_next
+unfolding fixed_of fixed_sum weighted_next weighted
 fixed_fit a = (plus_fit _ _, plus_fit _ _)
 
 pub on_fit : (u : Sums) (b : Triple) → FitSums (on_sums u b)
