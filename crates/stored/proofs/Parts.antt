@@ -3,11 +3,12 @@ use mathlib.Core.Path.{◌≡◌, refl, sym, ◌∙◌, ap, ap₂}
 use Prim.Native.Nat.{ℕ, zero, suc, ◌+◌, ◌-◌, ◌*◌, ◌/◌, ◌%◌, ◌^◌, ◌≤◌, ◌<◌}
 use native.Mathlib.Omega.{arith}
 use mathlib.Core.Bool.{Bool, true, false, cond}
-use mathlib.Core.List.{List}
+use mathlib.Core.List.{List, [], ◌∷◌}
 use lib.Dec.{eqb, ltb}
 use lib.ListN.{length, get_or, set}
 use lib.Seq.{ext_get_or, get_or-set_other}
 use lib.Ieee.{Float, binary64, to_bits}
+use borrow.Rule.Slice.PartMut.{put_mid}
 use borrow.Author.Tests.{lt-ltb, le-ltb, ltb-true, ltb-false}
 use Rattle.triple.specs.declared.Triple.{Triple}
 use Rattle.triple.specs.Nine.{at}
@@ -53,6 +54,32 @@ module _ {A : Type 0} where
   same_from f g i zero l h = refl
   same_from f g i (suc n) l h =
       ap₂ (λ (x : List A) (y : A). set x (i + n) y) (same_from f g i n l (λ (j : ℕ) (a : i ≤ j) (b : j < i + n). h j a (omega arith))) (h (i + n) (omega arith) (omega arith))
+
+  -- one place on, in both
+  on_one : (f : ℕ → A) (i n : ℕ) (x : A) (l : List A) → filled_from f (suc i) n (x ∷ l) ≡ x ∷ filled_from (λ (j : ℕ). f (suc j)) i n l
+  unfolding filled_from
+  on_one f i zero x l = refl
+  on_one f i (suc n) x l = let e : suc i + n ≡ suc (i + n) = omega arith in rw e (ap (λ (y : List A). set y (suc (i + n)) (f (suc (i + n)))) (on_one f i n x l))
+
+  from_first : (f : ℕ → A) (n : ℕ) (x : A) (l : List A) → filled_from f 0 (suc n) (x ∷ l) ≡ f 0 ∷ filled_from (λ (j : ℕ). f (suc j)) 0 n l
+  unfolding filled_from
+  from_first f zero x l = refl
+  from_first f (suc n) x l = let e : 0 + suc n ≡ suc (0 + n) = omega arith in rw e (ap (λ (y : List A). set y (suc (0 + n)) (f (suc (0 + n)))) (from_first f n x l))
+
+  -- values written all at once
+  pub put_filled : (d : A) (i n : ℕ) (l ys : List A) → length ys ≡ n → i + n ≤ length l → (f : ℕ → A) → ((j : ℕ) → f (i + j) ≡ get_or ys j d) → put_mid i n l ys ≡ filled_from f i n l
+  unfolding filled_from
+  put_filled d (suc i) n [] ys e h f k = absurd (omega arith)
+  put_filled d (suc i) n (x ∷ l) ys e h f k =
+      ap (λ (t : List A). x ∷ t) (put_filled d i n l ys e (omega arith) (λ (j : ℕ). f (suc j)) (λ (j : ℕ). let z : suc (i + j) ≡ suc i + j = omega arith in ap f z ∙ k j))
+      ∙ sym (on_one f i n x l)
+  put_filled d zero zero l [] e h f k = refl
+  put_filled d zero zero l (y ∷ ys) e h f k = absurd (omega arith)
+  put_filled d zero (suc n) l [] e h f k = absurd (omega arith)
+  put_filled d zero (suc n) [] (y ∷ ys) e h f k = absurd (omega arith)
+  put_filled d zero (suc n) (x ∷ l) (y ∷ ys) e h f k =
+      ap₂ (λ (a : A) (t : List A). a ∷ t) (sym (k 0)) (put_filled d zero n l ys (omega arith) (omega arith) (λ (j : ℕ). f (suc j)) (λ (j : ℕ). let z : suc (0 + j) ≡ 0 + suc j = omega arith in ap f z ∙ k (suc j)))
+      ∙ sym (from_first f n x l)
 
 -- word r of component i of triple q
 pub triple_word : (u : Uses) (ts : List Triple) (q i r : ℕ) → i < 3 → r < 2

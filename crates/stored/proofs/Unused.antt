@@ -4,7 +4,10 @@ use Prim.Native.Nat.{ℕ, zero, suc, ◌+◌, ◌-◌, ◌*◌, ◌/◌, ◌≤�
 use native.Mathlib.Omega.{arith}
 use mathlib.Core.Bool.{Bool, true, false}
 use mathlib.Core.List.{List}
-use lib.ListN.{get_or}
+use lib.ListN.{length, get_or, take, drop}
+use Rattle.std.proofs.Common.{length-drop}
+use lib.Seq.{length-take-le}
+use Rattle.std.proofs.lemmas.List.{get_or-take, get_or-drop}
 use borrow.Author.Tests.{ne_eqb, lt-ltb, le-ltb}
 use Rattle.stored.specs.declared.layout.Uses.{Uses}
 use Rattle.stored.specs.Layout.{triple_used, used}
@@ -27,6 +30,13 @@ rest_unused u j h =
     rw (ne_eqb j 2 (λ (z : j ≡ 2). omega arith), ne_eqb j 3 (λ (z : j ≡ 3). omega arith), le-ltb j 6 (omega arith), le-ltb j 252 (omega arith)) (le-ltb j 258 h)
 
 module _ (c : List ℕ) where
+  -- the words after the counts
+  pub rest_long : length c ≡ 504 → length (take 246 (drop 258 c)) ≡ 246
+  rest_long h = omega (arith, length-take-le {A = ℕ}, length-drop {A = ℕ})
+
+  pub rest_word : (n : ℕ) → n < 246 → get_or (take 246 (drop 258 c)) n 0 ≡ get_or c (n + 258) 0
+  rest_word n h = let e : 258 + n ≡ n + 258 = omega arith in rw (get_or-take 246 (drop 258 c) n 0 h, get_or-drop 258 c n 0, e) refl
+
   -- the first n words after the counts are zero, and z
   unfoldable pub rest_zero : (z : Bool) (n : ℕ) → Bool
   rest_zero z zero = z

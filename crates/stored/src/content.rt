@@ -1,6 +1,6 @@
 // SPDX-License-Identifier: MIT OR Apache-2.0
 // A run as 504 words of content.
-ghost use Rattle.std.specs.Prelude.{◌≡◌, true, cond, ℕ, ◌-◌, get_or};
+ghost use Rattle.std.specs.Prelude.{◌≡◌, true, cond, ℕ, ◌-◌};
 ghost use Rattle.run.specs.Sound.{is_sound};
 ghost use Rattle.std.specs.Float.{binary64};
 ghost use Rattle.std.specs.Float.Ieee.{to_bits};
@@ -12,25 +12,24 @@ use crate::{layout, triples};
 use run::{Mark, Run, waiting};
 use triple::Triple;
 
+// A bool beside the number, here and below: an `Option` of the two would be made only to be taken apart at once.
 fn kept(used: bool, n: u8) -> u32
     ensures { result ≡ cond used n 0 }
 {
-    if used { n as u32 } else { 0 }
+    if used { u32::from(n) } else { 0 }
 }
 
 // Form, waiting point, index, stage, question number, flag.
 fn head_of(mark: Mark, u: Uses, samples: u8) -> [u32; 6]
     ensures { result ≡ head_of mark u samples }
 {
-    let index = kept(u.index, mark.index);
-    let stage = kept(u.stage, mark.stage);
     [
         1,
-        mark.at as u32,
-        index,
-        stage,
-        mark.count.number as u32,
-        samples as u32,
+        u32::from(mark.at),
+        kept(u.index, mark.index),
+        kept(u.stage, mark.stage),
+        u32::from(mark.count.number),
+        u32::from(samples),
     ]
 }
 
@@ -56,6 +55,7 @@ fn stored_bits(used: bool, x: f64) -> u64
     if used { bits::bits_of(x) } else { 0 }
 }
 
+// The halves of a pattern. By `%` and `/`, since `as` may not drop bits and the library has no word for it.
 fn lower(bits: u64) -> u32
     ensures { result ≡ half bits 0 }
 {
@@ -68,23 +68,11 @@ fn upper(bits: u64) -> u32
     (bits / 0x1_0000_0000) as u32
 }
 
-fn put_head(head: [u32; 6], content: &mut [u32; 504])
-    ensures { content.new ≡ filled_from (λ (j : ℕ). get_or head j 0) 0 6 content.old }
-{
-    let mut j = 0usize;
-    while j < 6 {
-        content[j] = head[j];
-        j += 1;
-    }
-}
-
 // Each float takes two words, the lower first.
 fn put_floats(u: Uses, floats: [Triple; 41], content: &mut [u32; 504])
     ensures { content.new ≡ filled_from (λ (j : ℕ). float_word u floats (j - 6)) 6 246 content.old }
 {
-    let mut q = 0usize;
-    while q < 41 {
-        let t = floats[q];
+    for (q, t) in floats.iter().enumerate() {
         let x = stored_bits(layout::is_used(u, 3 * q), t.x);
         let y = stored_bits(layout::is_used(u, 3 * q + 1), t.y);
         let z = stored_bits(layout::is_used(u, 3 * q + 2), t.z);
@@ -94,17 +82,6 @@ fn put_floats(u: Uses, floats: [Triple; 41], content: &mut [u32; 504])
         content[6 * q + 9] = upper(y);
         content[6 * q + 10] = lower(z);
         content[6 * q + 11] = upper(z);
-        q += 1;
-    }
-}
-
-fn put_counts(counts: [u32; 6], content: &mut [u32; 504])
-    ensures { content.new ≡ filled_from (λ (j : ℕ). get_or counts (j - 252) 0) 252 6 content.old }
-{
-    let mut i = 0usize;
-    while i < 6 {
-        content[252 + i] = counts[i];
-        i += 1;
     }
 }
 
@@ -113,9 +90,9 @@ fn content_from(head: [u32; 6], u: Uses, floats: [Triple; 41], counts: [u32; 6])
     ensures { result ≡ content_from head u floats counts }
 {
     let mut content = [0u32; 504];
-    put_head(head, &mut content);
+    content[..6].copy_from_slice(&head);
     put_floats(u, floats, &mut content);
-    put_counts(counts, &mut content);
+    content[252..258].copy_from_slice(&counts);
     content
 }
 

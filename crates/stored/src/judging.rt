@@ -17,34 +17,26 @@ fn float_at(content: &[u32; 504], k: usize) -> f64
     ensures { result ≡ float_at content.now k }
 {
     let at = 6 + 2 * k;
-    bits::float_of(wide(content[at]) + 0x1_0000_0000 * wide(content[at + 1]))
-}
-
-fn wide(n: u32) -> u64
-    ensures { (result ≡ n) × (result < 0x1_0000_0000) }
-{
-    n as u64
+    bits::float_of(u64::from(content[at]) + 0x1_0000_0000 * u64::from(content[at + 1]))
 }
 
 fn triple_at(content: &[u32; 504], q: usize) -> Triple
     requires { q < 41 }
     ensures { result ≡ triple_at content.now q }
 {
-    let x = float_at(content, 3 * q);
-    let y = float_at(content, 3 * q + 1);
-    let z = float_at(content, 3 * q + 2);
-    Triple { x, y, z }
+    Triple {
+        x: float_at(content, 3 * q),
+        y: float_at(content, 3 * q + 1),
+        z: float_at(content, 3 * q + 2),
+    }
 }
 
 fn triples_in(content: &[u32; 504]) -> [Triple; 41]
     ensures { result ≡ triples_in content.now }
 {
-    let zero = Triple::zero();
-    let mut floats = [zero; 41];
-    let mut q = 0usize;
-    while q < 41 {
-        floats[q] = triple_at(content, q);
-        q += 1;
+    let mut floats = [Triple::zero(); 41];
+    for (q, t) in floats.iter_mut().enumerate() {
+        *t = triple_at(content, q);
     }
     floats
 }
@@ -53,12 +45,12 @@ fn counts_at(c: &[u32; 504]) -> [u64; 6]
     ensures { result ≡ counts_at c.now }
 {
     [
-        wide(c[252]),
-        wide(c[253]),
-        wide(c[254]),
-        wide(c[255]),
-        wide(c[256]),
-        wide(c[257]),
+        u64::from(c[252]),
+        u64::from(c[253]),
+        u64::from(c[254]),
+        u64::from(c[255]),
+        u64::from(c[256]),
+        u64::from(c[257]),
     ]
 }
 
@@ -66,25 +58,13 @@ fn counts_at(c: &[u32; 504]) -> [u64; 6]
 pub fn is_known(c: &[u32; 504]) -> bool
     ensures { result ≡ is_known c.now }
 {
-    if c[0] != 1 {
-        return false;
-    }
-    if c[1] < 1 {
-        return false;
-    }
-    if c[1] > 8 {
-        return false;
-    }
-    if c[2] > 255 {
-        return false;
-    }
-    if c[3] > 255 {
-        return false;
-    }
-    if c[4] > 65535 {
-        return false;
-    }
-    c[5] <= 1
+    (c[0] == 1)
+        & (1 <= c[1])
+        & (c[1] <= 8)
+        & (c[2] <= 255)
+        & (c[3] <= 255)
+        & (c[4] <= 65535)
+        & (c[5] <= 1)
 }
 
 // The run of a content whose head is known.
@@ -151,10 +131,8 @@ fn are_floats_zero(c: &[u32; 504], u: Uses) -> bool
     ensures { result ≡ unused_is_zero c.now u 252 }
 {
     let mut zero = is_head_zero(c, u);
-    let mut q = 0usize;
-    while q < 38 {
+    for q in 0..38 {
         zero = are_six_zero(c, 6 * q + 6, layout::triple_used(u, q), zero);
-        q += 1;
     }
     is_middle_zero(c, u, zero)
 }
@@ -165,10 +143,8 @@ pub fn is_unused_zero(c: &[u32; 504], mark: Mark) -> bool
 {
     let u = layout::uses_of(waiting::waits_at(mark));
     let mut zero = are_floats_zero(c, u);
-    let mut n = 0usize;
-    while n < 246 {
-        zero = still_zero(zero, false, c[n + 258]);
-        n += 1;
+    for word in &c[258..] {
+        zero = still_zero(zero, false, *word);
     }
     zero
 }

@@ -51,7 +51,7 @@ fn nothing() -> Uses
 fn up_to_epoch(i: u8) -> u8
     ensures { result ≡ up_to_epoch i }
 {
-    if i < 4 { i } else { 4 }
+    i.min(4)
 }
 
 // The table, a line for each waiting point.
@@ -130,10 +130,7 @@ pub fn uses_of(w: Waiting) -> Uses
 fn place_used(u: Uses, i: usize) -> bool
     ensures { result ≡ place_used u i }
 {
-    if i < u.from as usize {
-        return false;
-    }
-    i <= u.last as usize
+    (usize::from(u.from) <= i) & (i <= usize::from(u.last))
 }
 
 fn acceleration_used(u: Uses, i: usize) -> bool
@@ -142,10 +139,7 @@ fn acceleration_used(u: Uses, i: usize) -> bool
     if i == 4 {
         return u.epoch;
     }
-    if i < u.since as usize {
-        return false;
-    }
-    i < u.until as usize
+    (usize::from(u.since) <= i) & (i < usize::from(u.until))
 }
 
 // Whether triple q is used; of triple 38 `is_used` tells.
@@ -162,7 +156,7 @@ pub fn triple_used(u: Uses, q: usize) -> bool
         return acceleration_used(u, q - 18);
     }
     if q < 30 {
-        return q - 27 < u.slopes as usize;
+        return q - 27 < usize::from(u.slopes);
     }
     if q < 32 {
         return u.state;

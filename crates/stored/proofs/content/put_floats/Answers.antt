@@ -1,5 +1,4 @@
 -- `put_floats`: triple after triple.
-use borrow.Author.Rules.{rules}
 use mathlib.Core.Path.{◌≡◌, refl}
 use Prim.Native.Nat.{◌*◌}
 use native.Mathlib.Omega.{arith}
@@ -9,10 +8,10 @@ use Rattle.stored.proofs.content.put_floats.Goals as goal
 
 pub loop-q-init : goal.loop-q-init
 unfolding filled_from
-loop-q-init c = (search rules, refl)
+loop-q-init c = refl
 
 pub loop-q-preserved : goal.loop-q-preserved
-loop-q-preserved c = let h = six_floats c.args.u c.args.floats c.loop-q.q c.args.content.now in (search rules, cc)
+loop-q-preserved c = let h = six_floats c.args.u c.args.floats c.loop-q.q c.args.content.now in cc
 
 pub returns : goal.returns
 returns c = let e : 6 * c.loop-q.q ≡ 246 = omega arith in cc

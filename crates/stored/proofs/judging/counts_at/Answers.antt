@@ -4,4 +4,4 @@ use Rattle.stored.proofs.judging.counts_at.Goals as goal
 
 pub returns : goal.returns
 unfolding counts_at
-returns c = simp (c.wide-6.ensures.0, c.wide-5.ensures.0, c.wide-4.ensures.0, c.wide-3.ensures.0, c.wide-2.ensures.0, c.wide.ensures.0)
+returns c = simp (c.from-6.ensures, c.from-5.ensures, c.from-4.ensures, c.from-3.ensures, c.from-2.ensures, c.from.ensures)

@@ -4,4 +4,4 @@ use Rattle.stored.proofs.judging.float_at.Goals as goal
 
 pub returns : goal.returns
 unfolding float_at
-returns c = simp (c.float_of.ensures, c.wide-2.ensures.0, c.wide.ensures.0)
+returns c = simp (c.float_of.ensures, c.from-2.ensures, c.from.ensures)

@@ -4,4 +4,4 @@ use Rattle.stored.proofs.judging.triple_at.Goals as goal
 
 pub returns : goal.returns
 unfolding triple_at
-returns c = simp (c.float_at-z.ensures, c.float_at-y.ensures, c.float_at-x.ensures)
+returns c = simp (c.float_at-3.ensures, c.float_at-2.ensures, c.float_at.ensures)

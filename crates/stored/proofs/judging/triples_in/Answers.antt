@@ -2,7 +2,6 @@
 use mathlib.Core.Path.{◌≡◌, refl, ◌∙◌}
 use native.Mathlib.Numerals.{add-one}
 use native.Mathlib.Omega.{arith}
-use lib.ListN.{length-set}
 use borrow.Author.Rules.{rules}
 use Rattle.triple.specs.Arithmetic.{zeros}
 use Rattle.blocks.specs.Rows.{filled}
@@ -12,12 +11,12 @@ use Rattle.stored.proofs.judging.triples_in.Goals as goal
 
 pub loop-q-init : goal.loop-q-init
 unfolding filled
-loop-q-init c = (search rules, refl, refl, refl)
+loop-q-init c = (refl, refl)
 
 pub loop-q-preserved : goal.loop-q-preserved
 unfolding filled
-loop-q-preserved c = (search rules, simp length-set (search rules), search rules, rw add-one (cc))
+loop-q-preserved c = (search rules, rw add-one (cc))
 
 pub returns : goal.returns
 unfolding triples_in
-returns c = let e : c.loop-q.q ≡ 41 = omega arith in c.loop-q.invariant.3 ∙ rw e (filled_row _ 41 _ zeros c.loop-q.invariant.2)
+returns c = let e : c.loop-q.q ≡ 41 = omega arith in c.loop-q.invariant.1 ∙ rw e (filled_row _ 41 _ zeros c.loop-q.invariant.0)

@@ -1,5 +1,5 @@
 -- `acceleration_used`.
-use borrow.Author.Tests.{lt-leb, le-leb, eq-eqb, ne_eqb}
+use borrow.Author.Tests.{eq-eqb, ne_eqb}
 use Rattle.stored.specs.Layout.{acceleration_used}
 use Rattle.stored.proofs.layout.acceleration_used.Goals as goal
 
@@ -7,10 +7,6 @@ pub returns-then-i-eq4 : goal.returns-then-i-eq4
 unfolding acceleration_used
 returns-then-i-eq4 c = simp (eq-eqb _ _ c.if-i-eq4.true)
 
-pub returns-then-i-u : goal.returns-then-i-u
-unfolding acceleration_used
-returns-then-i-u c = simp (ne_eqb _ _ c.if-i-eq4.false, lt-leb _ _ c.if-i-u.true)
-
 pub returns : goal.returns
 unfolding acceleration_used
-returns c = simp (ne_eqb _ _ c.if-i-eq4.false, le-leb _ _ c.if-i-u.false)
+returns c = simp (ne_eqb _ _ c.if-i-eq4.false, c.from.ensures, c.from-2.ensures)

@@ -17,7 +17,7 @@ returns-then-q-lt27 c = simp (c.acceleration_used.ensures, lt-ltb _ _ c.if-q-lt2
 
 pub returns-then-q-lt30 : goal.returns-then-q-lt30
 unfolding triple_used
-returns-then-q-lt30 c = simp (lt-ltb _ _ c.if-q-lt30.true, le-ltb _ _ c.if-q-lt27.false, le-ltb _ _ c.if-q-lt18.false, le-ltb _ _ c.if-q-lt9.false)
+returns-then-q-lt30 c = simp (c.from.ensures, lt-ltb _ _ c.if-q-lt30.true, le-ltb _ _ c.if-q-lt27.false, le-ltb _ _ c.if-q-lt18.false, le-ltb _ _ c.if-q-lt9.false)
 
 pub returns-then-q-lt32 : goal.returns-then-q-lt32
 unfolding triple_used
