@@ -20,15 +20,17 @@ fn steps_for(span: u64, step: u64) -> u64
     (span + (step - 1)) / step
 }
 
-// K from t0 to tf by h, which are whole.
+// K from t0 to tf by h; none where they are not whole.
 #[tactic(auto, using(crate::proofs::Plainly::three, crate::proofs::Reading::step_is_time, crate::proofs::Forecasts::countable))]
-pub fn steps_between(t0: f64, tf: f64, h: f64) -> u64
-    requires { are_whole t0 tf h ≡ true }
-    ensures { result ≡ steps_for (span_of (whole_of t0) (whole_of tf)) (unsigned_abs (whole_of h)) }
+pub fn steps_between(t0: f64, tf: f64, h: f64) -> Option<u64>
+    ensures { result ≡ (if are_whole t0 tf h then Some (steps_for (span_of (whole_of t0) (whole_of tf)) (unsigned_abs (whole_of h))) else None) }
 {
+    if !wholes::are_whole(t0, tf, h) {
+        return None;
+    }
     let span = wholes::span_of(t0, tf);
     let step = wholes::size_of(h);
-    steps_for(span, step)
+    Some(steps_for(span, step))
 }
 
 // T

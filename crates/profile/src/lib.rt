@@ -67,13 +67,12 @@ pub fn forecast(settings: Settings, t0: f64, tf: f64) -> Result<Cost, Refusal>
     if !limits::is_dated(plan) {
         return Err(Refusal::BlankDate);
     }
-    if !wholes::are_whole(t0, tf, settings.h) {
+    let Some(steps) = costs::steps_between(t0, tf, settings.h) else {
         return Err(Refusal::NotWhole);
-    }
+    };
     if plan::is_too_near(plan) {
         return Err(Refusal::StepNotFinite);
     }
-    let steps = costs::steps_between(t0, tf, settings.h);
     if settings.max_steps < steps {
         return Err(Refusal::TooFewSteps);
     }
