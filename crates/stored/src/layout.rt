@@ -130,7 +130,7 @@ pub fn uses_of(w: Waiting) -> Uses
 fn place_used(u: Uses, i: usize) -> bool
     ensures { result ≡ place_used u i }
 {
-    (usize::from(u.from) <= i) & (i <= usize::from(u.last))
+    usize::from(u.from) <= i && i <= usize::from(u.last)
 }
 
 fn acceleration_used(u: Uses, i: usize) -> bool
@@ -139,7 +139,7 @@ fn acceleration_used(u: Uses, i: usize) -> bool
     if i == 4 {
         return u.epoch;
     }
-    (usize::from(u.since) <= i) & (i < usize::from(u.until))
+    usize::from(u.since) <= i && i < usize::from(u.until)
 }
 
 // Whether triple q is used; of triple 38 `is_used` tells.
