@@ -6,12 +6,10 @@ ghost use Rattle.fastpath.specs.Looking.{ended, is_followed, looked_again, looke
 
 use crate::Look;
 use plan::{Plan, limits};
-use run::{Count, Mark, Track, Trial, samples};
+use run::waiting::Waiting;
+use run::{Count, Track, Trial, samples, waiting};
 use sums::Sums;
 use triple::{State, Triple};
-
-// The number of a step's end among the waiting points.
-const AT_STEP: u8 = 6;
 
 // Where the open step ends by the newest answer: it is made there, or stays open.
 #[derive(Clone, Copy)]
@@ -20,6 +18,7 @@ pub enum Reached {
     Open(State),
 }
 
+#[tactic(auto, unfolding(crate::specs::Looking::ended, crate::specs::Looking::is_made, crate::specs::Looking::reached))]
 pub fn reach(n: u8, plan: Plan, sums: Sums, trial: Trial, a: Triple) -> Reached
     ensures { result ≡ ended n plan sums trial a }
 {
@@ -35,37 +34,30 @@ pub fn reach(n: u8, plan: Plan, sums: Sums, trial: Trial, a: Triple) -> Reached
 }
 
 // Whether a further step follows at t, after n of them, and the sample that is due, if any, has its place among so many numbers.
+#[tactic(auto, unfolding(crate::specs::Looking::is_followed))]
 fn is_followed(plan: Plan, t: f64, n: u64, from: u64, room: usize) -> bool
     ensures { result ≡ is_followed plan t n from room }
 {
-    let wanted = limits::wants_samples(plan.settings);
-    if !samples::has_place(wanted, from, n, 1, room) {
-        return false;
-    }
-    if !conditions::is_due(plan, t) {
-        return false;
-    }
-    if n >= plan.settings.max_steps {
-        return false;
-    }
-    !conditions::is_tail(plan, t)
+    samples::has_place(limits::wants_samples(plan.settings), from, n, 1, room)
+        && conditions::is_due(plan, t)
+        && n < plan.settings.max_steps
+        && !conditions::is_tail(plan, t)
 }
 
 // The open step is tried once more, after n passes.
+#[tactic(auto, unfolding(crate::specs::Looking::looked_again))]
 pub fn look_again(n: u8, count: Count, state: State) -> Look
     requires { n < 255 }
     ensures { result ≡ looked_again n count state }
 {
-    let mark = Mark {
-        at: AT_STEP,
-        index: n + 1,
-        stage: 0,
-        count,
-    };
-    Look::Again { mark, state }
+    Look::Again {
+        mark: waiting::mark_at(Waiting::Step(n + 1), count),
+        state,
+    }
 }
 
 // The open step is made, and the next one is open, if one follows.
+#[tactic(auto, unfolding(crate::specs::Looking::looked_on))]
 pub fn look_on(plan: Plan, count: Count, track: Track, state: State, from: u64, room: usize) -> Look
     requires { track.steps < ample }
     ensures { result ≡ looked_on plan count track state from room }
@@ -74,11 +66,9 @@ pub fn look_on(plan: Plan, count: Count, track: Track, state: State, from: u64, 
     if !is_followed(plan, track.t + plan.h, steps, from, room) {
         return Look::Away;
     }
-    let mark = Mark {
-        at: AT_STEP,
-        index: 0,
-        stage: 0,
-        count,
-    };
-    Look::On { mark, state, steps }
+    Look::On {
+        mark: waiting::mark_at(Waiting::Step(0), count),
+        state,
+        steps,
+    }
 }

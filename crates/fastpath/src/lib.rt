@@ -6,7 +6,7 @@
 
 ghost use Rattle.std.specs.Prelude.{◌≡◌};
 ghost use Rattle.fastpath.specs.Looking.{looked_at};
-ghost use Rattle.fastpath.specs.Moving.{asked_at, asked_again, track_by, stored_by, made_step, kept_step};
+ghost use Rattle.fastpath.specs.Moving.{asked_at, asked_again, track_by, made_step, kept_step};
 
 use gauss_jackson::Question;
 use plan::{Plan, limits};
@@ -80,55 +80,47 @@ pub fn look_at(
     }
 }
 
+#[tactic(auto, unfolding(crate::specs::Moving::asked_at))]
 fn ask_at(mark: Mark, t: f64, x: State) -> Question
     ensures { result ≡ asked_at mark t x }
 {
-    let r = x.r;
-    let v = x.v;
     Question {
         number: mark.count.number,
         t,
-        r,
-        v,
+        r: x.r,
+        v: x.v,
     }
 }
 
 // The open step once more: where the run waits, what it tries, and the question.
+#[tactic(auto, unfolding(crate::specs::Moving::asked_again))]
 pub fn ask_again(mark: Mark, state: State, plan: Plan, track: Track, trial: Trial) -> Tried
     ensures { result ≡ asked_again mark state plan track trial }
 {
-    let fixed = trial.fixed;
     let question = ask_at(mark, track.t + plan.h, state);
-    let next = Trial { state, fixed };
     Tried {
         mark,
-        trial: next,
+        trial: Trial { state, ..trial },
         question,
     }
 }
 
 // The newest point, one step on.
+#[tactic(auto, unfolding(crate::specs::Moving::track_by))]
 fn track_by(state: State, steps: u64, plan: Plan, track: Track, a: Triple) -> Track
     ensures { result ≡ track_by state steps plan track a }
 {
-    let sums = track.sums.on(a);
     Track {
         t: track.t + plan.h,
         steps,
         state,
-        sums,
+        sums: track.sums.on(a),
     }
-}
-
-// How many samples a step stores.
-fn stored_by(wanted: bool) -> u64
-    ensures { result ≡ stored_by wanted }
-{
-    if wanted { 1 } else { 0 }
 }
 
 // The step is made, with the acceleration `a`, and the next one is open at its prediction. Its sample is stored last: a store into the
 // buffer pins every copy that is made before it.
+#[tactic(auto, unfolding(crate::specs::Moving::made_step, crate::specs::Moving::kept_step, crate::specs::Moving::stored_by))]
 pub fn make_step(
     mark: Mark,
     reached: State,
@@ -150,7 +142,7 @@ pub fn make_step(
     let question = ask_at(mark, next.t + plan.h, state);
     let trial = Trial { state, fixed };
     let wanted = limits::wants_samples(plan.settings);
-    let stored = stored_by(wanted);
+    let stored = u64::from(wanted);
     samples::keep_sample(
         wanted,
         from,
