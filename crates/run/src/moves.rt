@@ -59,15 +59,13 @@ fn with_slope(s: Stage, l: Slopes, a: Triple) -> Slopes
     }
 }
 
-// An RK4 step has one more acceleration.
+// An RK4 step has one more acceleration. In place, not by `..b`: most of a startup's answers come here, and that copies each part by itself.
 #[tactic(auto, unfolding(crate::specs::Moves::kept))]
-pub fn keep(s: Stage, b: Body, a: Triple) -> Body
+pub fn keep(s: Stage, mut b: Body, a: Triple) -> Body
     ensures { result ≡ kept s b a }
 {
-    Body {
-        slopes: with_slope(s, b.slopes, a),
-        ..b
-    }
+    b.slopes = with_slope(s, b.slopes, a);
+    b
 }
 
 // Where the open RK4 step from p over h ends, with its fourth acceleration.
