@@ -23,7 +23,7 @@ use triple::Triple;
 mod lending;
 mod replies;
 
-// An outcome in plain numbers. `kind` is 0 for a question, 1 for the finished state, 2 for a refusal; what a kind has no use for is zero.
+// An outcome in plain numbers, for C, as all that these calls tell. `kind` is 0 for a question, 1 for the finished state, 2 for a refusal; what a kind has no use for is zero.
 // `stored` is how many samples the call stored, whatever its kind.
 #[repr(C)]
 #[derive(Clone, Copy)]
@@ -40,7 +40,7 @@ pub struct Reply {
     pub number: u16,
 }
 
-// A forecast in plain numbers: `refusal` is 0 and the cost stands, or it is the refusal's number and the cost is all zero.
+// A forecast in plain numbers, for C: `refusal` is 0 and the cost stands, or it is the refusal's number and the cost is all zero.
 #[repr(C)]
 #[derive(Clone, Copy)]
 pub struct CostReply {

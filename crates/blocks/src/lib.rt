@@ -9,7 +9,7 @@ ghost use Rattle.blocks.specs.Blocks.{written, is_whole, taken};
 mod reading;
 mod writing;
 
-// The content as a stored form in `out`, or false and nothing written where `out` is not 2,048 bytes.
+// The content as a stored form in `out`, or false and nothing written where `out` is not 2,048 bytes: a refusal has its name in `stored`.
 pub fn write_to(content: &[u32; 504], out: &mut [u8]) -> bool
     ensures value { result ≡ (length out.old == 2048) }
     ensures out_after { out.new ≡ written content.now out.old }
@@ -21,7 +21,8 @@ pub fn write_to(content: &[u32; 504], out: &mut [u8]) -> bool
     true
 }
 
-// Whether the bytes are a stored form; where they are 2,048 their content is taken either way.
+// Whether the bytes are a stored form; where they are 2,048 their content is taken either way. So the answer is no Option: `content_after` says
+// what is left in `content` where it is false too.
 pub fn read_into(bytes: &[u8], content: &mut [u32; 504]) -> bool
     ensures value { result ≡ is_whole bytes.now }
     ensures content_after { content.new ≡ taken bytes.now content.old }

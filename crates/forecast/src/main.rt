@@ -14,7 +14,7 @@ const TEXT: usize = 154;
 // More pieces than any forecast has.
 const TURNS: u64 = 0x1000_0000_0000;
 
-// So many bytes of the input, up to its end or as many as have place.
+// So many bytes of the input, up to its end or as many as have place: the buffer is fixed, since there is no heap.
 fn read_full(input: &mut Stdin, text: &mut [u8]) -> io::Result<usize>
     ensures { IfOk result (λ n. n ≤ length text.old) }
 {

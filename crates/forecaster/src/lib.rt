@@ -39,7 +39,7 @@ impl Forecast {
     }
 }
 
-// What a piece printed: so many bytes, and the forecast to go on with.
+// What a piece printed: so many bytes of the lent ones (no heap), and the forecast to go on with.
 #[derive(Clone, Copy)]
 pub struct Printed {
     pub forecast: Forecast,

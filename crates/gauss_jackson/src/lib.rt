@@ -80,7 +80,8 @@ pub fn refuse(refusal: Refusal) -> Answered
     outcomes::end(Outcome::Refused(refusal))
 }
 
-// A start: a run with its first question, or a refusal with a run that is ended.
+// A start: a run with its first question, or a refusal with a run that is ended. What it is given stays five arguments, here and in the crates
+// above: C and the rules' theorems have them apart, and a record would be made only to be taken apart.
 #[tactic(auto, unfolding(crate::specs::Answers::started, crate::specs::Answers::started_by))]
 pub fn start(settings: Settings, t0: f64, tf: f64, r0: Triple, v0: Triple) -> Answered
     ensures { result ≡ started settings t0 tf r0 v0 }

@@ -1,5 +1,6 @@
 // SPDX-License-Identifier: MIT OR Apache-2.0
-// What an accepted answer leads to at each waiting point, the one plain way. `count` counts the answers up to this one.
+// What an accepted answer leads to at each waiting point, the one plain way. `count` counts the answers up to this one; it and
+// the body stay apart, since the definitions of `Answers.antt` change the one and count on by the other.
 ghost use Rattle.std.specs.Prelude.{◌≡◌, ◌<◌, ◌≤◌};
 ghost use Rattle.plan.specs.Limits.{max_passes};
 ghost use Rattle.run.specs.Limits.{ample};

@@ -51,7 +51,8 @@ fn last_interval(samples: &[f64]) -> usize
     table::count_of(samples).saturating_sub(2)
 }
 
-// Which samples lie before a single time, or at it.
+// Which samples lie before a single time, or at it. The direction is a truth here and below, as in the definitions: no step to run depends on it,
+// only which way two numbers are compared.
 #[tactic(auto, unfolding(crate::specs::Intervals::reached))]
 fn is_reached(forward: bool, time: f64, t: f64) -> bool
     ensures { result ≡ reached forward time t }
@@ -97,7 +98,7 @@ pub fn interval_of(samples: &[f64], t: f64) -> usize
 {
     let before = first_past(is_forward(samples), samples, t).saturating_sub(1);
     let last = last_interval(samples);
-    if last < before { last } else { before }
+    before.min(last)
 }
 
 // The interval of a batch's next time, when the walk stands at interval k: never one before.

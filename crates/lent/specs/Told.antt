@@ -1,10 +1,6 @@
 -- What an answer on a lent run tells: all that `answer` gives but the run.
 use Rattle.gauss_jackson.specs.declared.Answered.{Answered}
 use Rattle.lent.specs.declared.AnswerTold.{AnswerTold}
-use Rattle.lent.specs.declared.AnswerGiven.{AnswerGiven}
 
 abbrev pub answer_told : Answered → AnswerTold
 answer_told x = record { outcome = x.outcome; stored = x.stored }
-
-abbrev pub answer_given : Answered → AnswerGiven
-answer_given x = record { run = x.run; told = answer_told x }

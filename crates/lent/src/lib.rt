@@ -6,7 +6,7 @@ ghost use Rattle.std.specs.Prelude.{◌≡◌};
 ghost use Rattle.gauss_jackson.specs.Answers.{started, answered};
 ghost use Rattle.profile.specs.Start.{started_whole};
 ghost use Rattle.run.specs.Samples.{tens, numbers_of};
-ghost use Rattle.lent.specs.Told.{answer_told, answer_given};
+ghost use Rattle.lent.specs.Told.{answer_told};
 
 use gauss_jackson::Outcome;
 use plan::Settings;
@@ -30,6 +30,7 @@ pub fn start_lent(
     done.outcome
 }
 
+// A function beside `start_lent` and no case of it: each tells what its own start tells, here the cost too.
 // A start in the whole-second profile: the lent run becomes the plain start's, with its cost told; or an ended one where the start is refused.
 pub fn start_whole_lent(
     run: &mut Run,
@@ -53,33 +54,16 @@ pub struct AnswerTold {
     pub stored: u64,
 }
 
-// The run to go on with, and what is told.
-#[derive(Clone, Copy)]
-struct AnswerGiven {
-    run: Run,
-    told: AnswerTold,
-}
-
-fn answer_given(run: Run, number: u16, a: Triple, from: u64, out: &mut [f64]) -> AnswerGiven
-    ensures { (result ≡ answer_given (answered run number a (tens from out.old)).got) × (out.new ≡ numbers_of (answered run number a (tens from out.old)).out) }
-{
-    let done = gauss_jackson::answer(run, number, a, from, out);
-    let next = done.run;
-    let outcome = done.outcome;
-    let told = AnswerTold {
-        outcome,
-        stored: done.stored,
-    };
-    AnswerGiven { run: next, told }
-}
-
 // An answer: the lent run moves on, or stays as it is where the answer is refused by 7 or 8. The room `out` begins at sample `from`.
 pub fn answer_lent(run: &mut Run, number: u16, a: Triple, from: u64, out: &mut [f64]) -> AnswerTold
     ensures { (result ≡ answer_told (answered run.old number a (tens from out.old)).got)
         × (run.new ≡ (answered run.old number a (tens from out.old)).got.run)
         × (out.new ≡ numbers_of (answered run.old number a (tens from out.old)).out) }
 {
-    let done = answer_given(*run, number, a, from, out);
+    let done = gauss_jackson::answer(*run, number, a, from, out);
     *run = done.run;
-    done.told
+    AnswerTold {
+        outcome: done.outcome,
+        stored: done.stored,
+    }
 }

@@ -1,5 +1,6 @@
 // SPDX-License-Identifier: MIT OR Apache-2.0
-// Numbers as text: into lent bytes, and out of them. No function writes a byte where not all of its bytes have room.
+// Numbers as text: into lent bytes, and out of them. No function writes a byte where not all of its bytes have room. Each is told the place where
+// it begins and tells the place after: the bytes are lent, and a writer that held both would say the same in each contract.
 #![tactic(auto)]
 
 ghost use Rattle.std.specs.Prelude.{◌≡◌};

@@ -20,7 +20,7 @@ pub struct Settings {
     pub max_corrector_iters: u64,
     pub max_startup_iters: u64,
     pub max_steps: u64,
-    // 0 or 1; any other number is over its limit, so that no byte that a caller lends leans on its care.
+    // 0 or 1. A number and no bool, since C fills it: any other is over its limit, so that no byte that a caller lends leans on its care.
     pub samples: u8,
 }
 

@@ -44,7 +44,7 @@ impl Replay {
         self.tell(told, &out)
     }
 
-    // A row of times.
+    // A row of times. The batch has a rule of its own for intervals, so this is no case of one time.
     pub fn tell_batch(&mut self, words: &mut Words<'_>) -> io::Result<()> {
         let mut times = [0.0f64; MOST];
         let Some(n) = words.floats(&mut times) else {

@@ -30,7 +30,7 @@ pub struct Replay {
     pub to: Stdout,
     pub number: u64,
     pub samples: [f64; ROOM],
-    // So many numbers of them are held.
+    // So many numbers of them are held: the room is fixed, since there is no heap.
     pub held: usize,
 }
 

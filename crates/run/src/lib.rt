@@ -25,7 +25,7 @@ pub struct Run {
     pub body: Body,
 }
 
-// The waiting point in numbers (`waiting` has their meaning), and the counts of the open question.
+// The waiting point in numbers, since C lends runs (`waiting` has their meaning), and the counts of the open question.
 #[repr(C)]
 #[derive(Clone, Copy)]
 pub struct Mark {

@@ -106,7 +106,8 @@ fn body_counts(k: u64, e: u64, b: Body) -> bool
     step_counts(k, e, b.plan.settings, b.startup_iters, b.track.steps)
 }
 
-// Whether a sound run waits at a step's end, by the parts that this takes: what `is_sound` finds there, without the rest of the run.
+// Whether a sound run waits at a step's end, by the parts that this takes: what `is_sound` finds there, without the rest of the run. By the
+// mark's own numbers: a waiting point would be made at each answer only to be asked for this case.
 #[tactic(auto, unfolding(crate::specs::Sound::is_open_step))]
 pub fn is_open_step(m: Mark, p: Plan, passes: u64, n: u64) -> bool
     ensures { result ≡ is_open_step m p passes n }

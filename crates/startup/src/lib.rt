@@ -10,7 +10,7 @@ use triple::{Point, State, Triple, nine};
 
 pub mod passes;
 
-// Position and velocity of the nine points; the epoch is point 4.
+// Position and velocity of the nine points; the epoch is point 4. Two arrays and no array of states: so C lends them, and so the stored form has them.
 #[repr(C)]
 #[derive(Clone, Copy)]
 pub struct Places {

@@ -7,7 +7,8 @@ use crate::{Places, Widest};
 use sums::Sums;
 use triple::{State, Triple};
 
-// Points 5 to 8, each by its own sums.
+// Points 5 to 8, each by its own sums. On and back stay two functions: every number differs, and the acceleration that goes into a point's sums
+// is its own on the way on, its neighbour's on the way back.
 fn points_on(h: f64, epoch: Sums, a: [Triple; 9]) -> [State; 4]
     ensures { result ≡ points_on h epoch a }
 {

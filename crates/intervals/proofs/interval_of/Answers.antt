@@ -1,12 +1,13 @@
--- `interval_of` is `interval_of`.
-use borrow.Author.Tests.{lt-ltb, le-ltb}
+-- `interval_of` is `interval_of`: held to the last one is the smaller of two.
+use Rattle.std.proofs.Common.{◌≡◌, ℕ, min, arith}
+use Rattle.std.proofs.lemmas.Bool.Decides.{nat_tests}
 use Rattle.intervals.specs.Intervals.{held_to, interval_of}
 use Rattle.intervals.proofs.interval_of.Goals as goal
 
-pub returns-then-last-before : goal.returns-then-last-before
-unfolding interval_of held_to
-returns-then-last-before c = simp (← c.last_interval-last.ensures, ← c.is_forward.ensures, ← c.first_past.ensures, ← c.saturating_sub-before.ensures, lt-ltb _ _ c.if-last-before.true)
+held_min : (last k : ℕ) → min k last ≡ held_to last k
+unfolding held_to
+held_min last k = grind (arith, nat_tests)
 
-pub returns-else-last-before : goal.returns-else-last-before
-unfolding interval_of held_to
-returns-else-last-before c = simp (← c.last_interval-last.ensures, ← c.is_forward.ensures, ← c.first_past.ensures, ← c.saturating_sub-before.ensures, le-ltb _ _ c.if-last-before.false)
+pub returns : goal.returns
+unfolding interval_of
+returns c = simp (c.min.ensures, held_min, ← c.last_interval-last.ensures, ← c.is_forward.ensures, ← c.first_past.ensures, ← c.saturating_sub-before.ensures)
