@@ -1,5 +1,6 @@
 // SPDX-License-Identifier: MIT OR Apache-2.0
-// Bytes into content, word after word: each word is looked up once, kept, and added to its block's check.
+// Bytes into content, word after word: each word is looked up once, kept, and added to its block's check. A block's number stays a number with its
+// bound, here and in `writing`: a type of four values would be made into one again at each place in the bytes.
 ghost use Rattle.std.specs.Prelude.{◌≡◌, ℕ, ◌+◌, ◌*◌, ◌<◌};
 ghost use Rattle.blocks.specs.Rows.{filled, filled_from};
 ghost use Rattle.blocks.specs.Blocks.{word_at, check, block_is_whole, content_at, is_whole};

@@ -5,6 +5,7 @@ use Rattle.std.specs.Float.{binary64}
 use Rattle.std.specs.Float.Ieee.{add}
 use Rattle.triple.specs.declared.Triple.{Triple}
 use Rattle.triple.specs.declared.State.{State}
+use Rattle.triple.specs.Sampled.{state_at}
 use Rattle.triple.specs.Nine.{slid}
 use Rattle.sums.specs.Sums.{on_sums, predicted_state, fixed_of}
 use Rattle.plan.specs.declared.Plan.{Plan}
@@ -16,12 +17,12 @@ use Rattle.run.specs.declared.Run.{Run}
 use Rattle.run.specs.Samples.{Room, step_sample, kept_sample}
 use Rattle.gauss_jackson.specs.declared.Question.{Question}
 use Rattle.gauss_jackson.specs.declared.Outcome.TheVariants.{Ask}
-use Rattle.gauss_jackson.specs.Answers.{Given}
+use Rattle.gauss_jackson.specs.Answers.{Given, question_under}
 use Rattle.fastpath.specs.declared.Tried.{Tried}
 use Rattle.fastpath.specs.declared.Stepped.{Stepped}
 
 unfoldable pub asked_at : Mark → (t : Float) → State → Question
-asked_at m t x = record { number = m.count.number; t = t; r = x.r; v = x.v }
+asked_at m t x = question_under m.count.number (state_at x t)
 
 -- the open step once more
 unfoldable pub asked_again : Mark → State → Plan → Track → Trial → Tried

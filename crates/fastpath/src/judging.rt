@@ -23,7 +23,7 @@ pub fn reach(n: u8, plan: Plan, sums: Sums, trial: Trial, a: Triple) -> Reached
     ensures { result ≡ ended n plan sums trial a }
 {
     let before = trial.state;
-    if (n as u64) >= plan.settings.max_corrector_iters {
+    if u64::from(n) >= plan.settings.max_corrector_iters {
         return Reached::Made(before);
     }
     let after = sums::corrected(plan.h, sums, trial.fixed, a);

@@ -84,12 +84,7 @@ pub fn look_at(
 fn ask_at(mark: Mark, t: f64, x: State) -> Question
     ensures { result ≡ asked_at mark t x }
 {
-    Question {
-        number: mark.count.number,
-        t,
-        r: x.r,
-        v: x.v,
-    }
+    Question::under(mark.count.number, x.at(t))
 }
 
 // The open step once more: where the run waits, what it tries, and the question.

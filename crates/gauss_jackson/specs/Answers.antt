@@ -2,6 +2,7 @@
 use Rattle.std.specs.Prelude.{◌≡◌, ℕ, ◌+◌, ◌-◌, cond, List, [], ◌∷◌, length, ◌==◌, nat_lt, Float, Ok, Err}
 use Rattle.triple.specs.declared.Triple.{Triple}
 use Rattle.triple.specs.declared.State.{State}
+use Rattle.triple.specs.declared.Point.{Point}
 use Rattle.triple.specs.declared.Sample.{Sample}
 use Rattle.triple.specs.Arithmetic.{nought, zeros}
 use Rattle.refusals.specs.declared.Refusal.{Refusal}
@@ -16,6 +17,7 @@ use Rattle.plan.specs.Verdict.{Verdict, verdict_on}
 use Rattle.run.specs.declared.Count.{Count}
 use Rattle.run.specs.declared.Body.{Body}
 use Rattle.run.specs.declared.Run.{Run}
+use Rattle.gauss_jackson.specs.declared.Question.{Question}
 use Rattle.gauss_jackson.specs.declared.Answered.{Answered}
 use Rattle.gauss_jackson.specs.declared.Outcome.{Outcome}
 use Rattle.gauss_jackson.specs.declared.Outcome.TheVariants.{Ask, Done, Refused}
@@ -59,8 +61,11 @@ unfoldable pub ending : Outcome → Answered
 ending o = record { run = ended_run; outcome = o; stored = 0 }
 
 -- ---- a question is open
+abbrev pub question_under : ℕ → Point → Question
+question_under n p = record { number = n; t = p.t; r = p.r; v = p.v }
+
 unfoldable pub question_of : Waiting → Count → Body → Outcome
-question_of w c b = let q = question_at w b in Ask (record { number = c.number; t = q.t; r = q.r; v = q.v })
+question_of w c b = Ask (question_under c.number (question_at w b))
 
 unfoldable pub asking : Waiting → Count → Body → Answered
 asking w c b = record { run = record { mark = mark_at w c; body = b }; outcome = question_of w c b; stored = 0 }

@@ -7,7 +7,7 @@
 ghost use Rattle.std.specs.Prelude.{◌≡◌};
 ghost use Rattle.plan.specs.Plan.{default_settings};
 ghost use Rattle.run.specs.Samples.{tens, numbers_of};
-ghost use Rattle.gauss_jackson.specs.Answers.{ending, started, answered, open_question};
+ghost use Rattle.gauss_jackson.specs.Answers.{question_under, ending, started, answered, open_question};
 ghost use Rattle.gauss_jackson.specs.declared.Outcome.TheVariants.{Refused};
 
 pub use plan::Settings;
@@ -15,7 +15,7 @@ use refusals::Refusal;
 pub use run::Run;
 use run::samples::Room;
 use run::{sound, waiting};
-use triple::Triple;
+use triple::{Point, Triple};
 
 mod advance;
 mod outcomes;
@@ -29,6 +29,20 @@ pub struct Question {
     pub t: f64,
     pub r: Triple,
     pub v: Triple,
+}
+
+impl Question {
+    // What is asked at a point, under a number.
+    pub fn under(number: u16, p: Point) -> Question
+        ensures { result ≡ question_under number p }
+    {
+        Question {
+            number,
+            t: p.t,
+            r: p.r,
+            v: p.v,
+        }
+    }
 }
 
 // The finished state. `evals` is the count of accepted answers.

@@ -87,13 +87,7 @@ pub fn tell_stored(wanted: bool, m: u64, x: Answered) -> Answered
 pub fn question_of(w: Waiting, count: Count, body: Body) -> Outcome
     ensures { result ≡ question_of w count body }
 {
-    let q = questions::question_at(w, body);
-    Outcome::Ask(Question {
-        number: count.number,
-        t: q.t,
-        r: q.r,
-        v: q.v,
-    })
+    Outcome::Ask(Question::under(count.number, questions::question_at(w, body)))
 }
 
 // The run waits at w.

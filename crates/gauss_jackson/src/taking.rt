@@ -153,7 +153,7 @@ fn take_step(n: u8, count: Count, b: Body, a: Triple, room: &mut Room) -> Answer
     ensures { Gives (step_taken n count b a (room_of room.old)) result room.old room.new }
 {
     let before = b.trial.state;
-    if (n as u64) >= b.plan.settings.max_corrector_iters {
+    if u64::from(n) >= b.plan.settings.max_corrector_iters {
         return end_step(count, advance::commit(b, before, a), room);
     }
     let after = sums::corrected(b.plan.h, b.track.sums, b.trial.fixed, a);

@@ -101,7 +101,8 @@ impl Replay {
         }
     }
 
-    // A `case` is told whole; of a `final` only the end is, so that a year can stand in a list.
+    // A `case` is told whole; of a `final` only the end is, so that a year can stand in a list. One truth for two words, asked at two places: no
+    // step to run depends on it.
     fn deal_with_case(&mut self, words: &mut Words<'_>, whole: bool) -> io::Result<()> {
         let Some(name) = words.next() else {
             return self.print_bad();

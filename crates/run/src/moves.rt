@@ -93,7 +93,7 @@ pub fn survey(i: u8, b: Body, a: Triple) -> Body
     ensures { result ≡ surveyed i b a }
 {
     Body {
-        a: nine::replaced(b.a, i as usize, a),
+        a: nine::replaced(b.a, usize::from(i), a),
         ..b
     }
 }
@@ -115,9 +115,9 @@ pub fn begin_pass(b: Body) -> Body
 pub fn renew(i: u8, b: Body, a: Triple) -> Body
     ensures { result ≡ renewed i b a }
 {
-    let before = nine::element(b.a, i as usize);
+    let before = nine::element(b.a, usize::from(i));
     Body {
-        a: nine::replaced(b.a, i as usize, a),
+        a: nine::replaced(b.a, usize::from(i), a),
         widest: passes::widen(b.widest, before, a),
         ..b
     }

@@ -69,9 +69,10 @@ pub fn keep_sample(wanted: bool, from: u64, n: u64, s: Sample, out: &mut [f64])
 fn grid_sample(b: Body, i: u8) -> Sample
     ensures { result ≡ grid_sample b.plan b.places b.a i }
 {
-    questions::grid_point(b, i).with(nine::element(b.a, i as usize))
+    questions::grid_point(b, i).with(nine::element(b.a, usize::from(i)))
 }
 
+// Whether samples are wanted is not the room's to know: the plan says it.
 impl Room<'_> {
     pub fn has_place(&self, wanted: bool, n: u64, m: u64) -> bool
         ensures { result ≡ has_place wanted self.now.from n m (length self.now.numbers.now) }
@@ -91,7 +92,7 @@ impl Room<'_> {
         requires { 4 ≤ i }
         ensures { Leaves self.old self.new (tens self.old.from (kept_point wanted self.old.from b.plan b.places b.a i self.old.numbers.now)) }
     {
-        self.keep_sample(wanted, (i - 4) as u64, grid_sample(b, i));
+        self.keep_sample(wanted, u64::from(i - 4), grid_sample(b, i));
     }
 
     // Points 4 to 8 of the startup, as samples 0 to 4.

@@ -19,7 +19,7 @@ pub fn is_sound(run: Run) -> bool
         return false;
     }
     let count = run.mark.count;
-    (count.number as u64) == count.evals % NUMBERING
+    u64::from(count.number) == count.evals % NUMBERING
         && has_counts(waiting::waits_at(run.mark), count.evals, run.body)
 }
 
@@ -36,14 +36,14 @@ fn is_idle(b: Body) -> bool
 fn forward_counts(i: u8, s: Stage, e: u64) -> bool
     ensures { result ≡ forward_counts i s e }
 {
-    4 <= i && i <= 7 && e == 4 * (i as u64) + (u8::from(s) as u64) - 15
+    4 <= i && i <= 7 && e == 4 * u64::from(i) + u64::from(u8::from(s)) - 15
 }
 
 #[tactic(auto, unfolding(crate::specs::Sound::backward_counts))]
 fn backward_counts(i: u8, s: Stage, e: u64) -> bool
     ensures { result ≡ backward_counts i s e }
 {
-    1 <= i && i <= 4 && e == 33 + (u8::from(s) as u64) - 4 * (i as u64)
+    1 <= i && i <= 4 && e == 33 + u64::from(u8::from(s)) - 4 * u64::from(i)
 }
 
 // How many of the eight points other than the epoch come before point i.
@@ -51,7 +51,11 @@ fn backward_counts(i: u8, s: Stage, e: u64) -> bool
 fn rank_of(i: u8) -> u64
     ensures { result ≡ rank_of i }
 {
-    if i < 4 { i as u64 } else { (i as u64) - 1 }
+    if i < 4 {
+        u64::from(i)
+    } else {
+        u64::from(i) - 1
+    }
 }
 
 // e answers, of which `before` came before the points were asked.
@@ -119,10 +123,10 @@ pub fn is_open_step(m: Mark, p: Plan, passes: u64, n: u64) -> bool
         return false;
     }
     let e = m.count.evals;
-    if (m.count.number as u64) != e % NUMBERING {
+    if u64::from(m.count.number) != e % NUMBERING {
         return false;
     }
-    let k = m.index as u64;
+    let k = u64::from(m.index);
     k <= p.settings.max_corrector_iters && step_counts(k, e, p.settings, passes, n)
 }
 
@@ -138,10 +142,10 @@ fn has_counts(w: Waiting, e: u64, b: Body) -> bool
         Waiting::Survey(i) => point_counts(i, 33, e) && is_idle(b),
         Waiting::Pass(i) => pass_counts(i, e, b),
         Waiting::Step(c) => {
-            let k = c as u64;
+            let k = u64::from(c);
             k <= b.plan.settings.max_corrector_iters && body_counts(k, e, b)
         }
-        Waiting::Tail(s) => body_counts(u8::from(s) as u64, e, b),
+        Waiting::Tail(s) => body_counts(u64::from(u8::from(s)), e, b),
         Waiting::TailSample => limits::wants_samples(b.plan.settings) && body_counts(4, e, b),
         Waiting::Ended | Waiting::Unknown => false,
     }

@@ -127,7 +127,7 @@ fn stage_at(w: Waiting) -> u8
     }
 }
 
-// A waiting point in numbers, with the counts of its question.
+// A waiting point in numbers, with the counts of its question. Three numbers of one value, each by itself: a `From` would make but one of them.
 pub fn mark_at(w: Waiting, count: Count) -> Mark
     ensures { result ≡ mark_at w count }
 {
