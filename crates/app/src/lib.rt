@@ -157,7 +157,7 @@ pub extern "C" fn gj_open_question(run: &Run) -> Reply
     replies::reply_of(gauss_jackson::open_question(*run), 0)
 }
 
-// The run put away in `out`, 2,048 bytes: 0, or the number of the refusal (7, 10), and then `out` is as it was.
+// The run put away in `out`, 2,048 bytes: for C 0, or the number of the refusal (7, 10), and then `out` is as it was.
 #[unsafe(no_mangle)]
 pub extern "C" fn gj_store(run: &Run, out: &mut [u8]) -> u32
     ensures { (result ≡ number_told (storing run.now out.old))
@@ -177,7 +177,7 @@ pub extern "C" fn gj_load(run: &mut Run, bytes: &[u8]) -> Reply
     Reply::from(done)
 }
 
-// Position, velocity and acceleration at t, nine numbers of `out`: 0, or the number of the refusal (9, 3, 4).
+// Position, velocity and acceleration at t, nine numbers of `out`: for C 0, or the number of the refusal (9, 3, 4).
 #[unsafe(no_mangle)]
 pub extern "C" fn gj_interpolate(t: f64, samples: &[f64], out: &mut [f64]) -> u32
     ensures value { result ≡ number_told (judged (t ∷ []) samples.now out.old) }

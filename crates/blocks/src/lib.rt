@@ -3,22 +3,21 @@
 // What the content means is not known here.
 #![tactic(auto)]
 
-ghost use Rattle.std.specs.Prelude.{◌≡◌, length, ◌==◌};
+ghost use Rattle.std.specs.Prelude.{◌≡◌, length, ◌==◌, if◌then◌else◌};
 ghost use Rattle.blocks.specs.Blocks.{written, is_whole, taken};
 
 mod reading;
 mod writing;
 
-// The content as a stored form in `out`, or false and nothing written where `out` is not 2,048 bytes: a refusal has its name in `stored`.
-pub fn write_to(content: &[u32; 504], out: &mut [u8]) -> bool
-    ensures value { result ≡ (length out.old == 2048) }
+// The content as a stored form in `out`; none, and nothing written, where `out` is not 2,048 bytes.
+#[tactic(auto, unfolding(crate::specs::Blocks::written))]
+pub fn write_to(content: &[u32; 504], out: &mut [u8]) -> Option<()>
+    ensures value { result ≡ (if length out.old == 2048 then Some tt else None) }
     ensures out_after { out.new ≡ written content.now out.old }
 {
-    let Some(form) = out.as_mut_array::<2048>() else {
-        return false;
-    };
+    let form = out.as_mut_array::<2048>()?;
     writing::write_form(content, form);
-    true
+    Some(())
 }
 
 // Whether the bytes are a stored form; where they are 2,048 their content is taken either way. So the answer is no Option: `content_after` says

@@ -1,7 +1,8 @@
 // SPDX-License-Identifier: MIT OR Apache-2.0
 // The way most answers go: at a step's end, with one more question there to follow. By the parts of a run that this takes, so that a run
-// which is lent is neither copied out nor put back whole; a record of the parts would be such a copy again. `look_at` says whether an answer goes this way; then `ask_again` or `make_step`
-// gives what changes. The theorems of `proofs/SameAnswer.antt` say that this is what `gauss_jackson::answer` does.
+// which is lent is neither copied out nor put back whole; a record of the parts would be such a copy again (docs/BENCH.md has what copies cost).
+// It goes on to the same step as the plain way, by other code: the two are proved equal.
+// `look_at` says whether an answer goes this way; then `ask_again` or `make_step` gives what changes. The theorems of `proofs/SameAnswer.antt` say that this is what `gauss_jackson::answer` does.
 #![tactic(auto)]
 
 ghost use Rattle.std.specs.Prelude.{◌≡◌};

@@ -52,9 +52,11 @@ fn phase_of(outcome: Outcome) -> Phase
 fn flight_of(next: u64, x: Answered) -> Flight
     ensures { result ≡ flight_of next x }
 {
-    let run = x.run;
-    let phase = phase_of(x.outcome);
-    Flight { run, next, phase }
+    Flight {
+        run: x.run,
+        next,
+        phase: phase_of(x.outcome),
+    }
 }
 
 // A start: a flight with its first question, or one that is over by a refusal.
@@ -92,10 +94,9 @@ fn answer_plainly(
     requires { flight.next < beyond }
     ensures { (result ≡ (answered_by question a from flight out.old).flight) × (out.new ≡ (answered_by question a from flight out.old).out) }
 {
-    let next = flight.next;
-    let run = flight.run;
-    let done = gauss_jackson::answer(run, question.number, a, from, out);
-    flight_of(next + done.stored, done)
+    let done = gauss_jackson::answer(flight.run, question.number, a, from, out);
+    let next = flight.next + done.stored;
+    flight_of(next, done)
 }
 
 // On by a piece, with one room lent for it, whose first ten numbers are those of sample `flight.next`. The answers that come most often go by

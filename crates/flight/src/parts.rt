@@ -28,15 +28,12 @@ pub fn parts_of(flight: Flight, question: Question) -> Parts
     ensures { result ≡ parts_of flight question }
 {
     let body = flight.run.body;
-    let mark = flight.run.mark;
     let a = body.a;
-    let track = body.track;
-    let trial = body.trial;
     Parts {
-        mark,
+        mark: flight.run.mark,
         a,
-        track,
-        trial,
+        track: body.track,
+        trial: body.trial,
         question,
         next: flight.next,
     }
@@ -46,23 +43,20 @@ pub fn parts_of(flight: Flight, question: Question) -> Parts
 pub fn together(flight: Flight, parts: Parts) -> Flight
     ensures { result ≡ together flight parts }
 {
-    let old = flight.run.body;
-    let mark = parts.mark;
     let a = parts.a;
-    let track = parts.track;
-    let trial = parts.trial;
-    let question = parts.question;
     let body = Body {
         a,
-        track,
-        trial,
-        ..old
+        track: parts.track,
+        trial: parts.trial,
+        ..flight.run.body
     };
-    let run = Run { mark, body };
     Flight {
-        run,
+        run: Run {
+            mark: parts.mark,
+            body,
+        },
         next: parts.next,
-        phase: Phase::Asks(question),
+        phase: Phase::Asks(parts.question),
     }
 }
 
@@ -88,13 +82,10 @@ pub fn try_again(parts: Parts, mark: Mark, state: State, plan: Plan) -> Parts
     ensures { result ≡ tried_parts parts (asked_again mark state plan parts.track parts.trial) }
 {
     let done = fastpath::ask_again(mark, state, plan, parts.track, parts.trial);
-    let mark = done.mark;
-    let trial = done.trial;
-    let question = done.question;
     Parts {
-        mark,
-        trial,
-        question,
+        mark: done.mark,
+        trial: done.trial,
+        question: done.question,
         ..parts
     }
 }
@@ -114,20 +105,14 @@ pub fn step_on(
     ensures { (result ≡ stepped_parts parts (made_step mark state steps plan parts.track parts.a x))
         × (out.new ≡ kept_step state steps plan parts.track parts.a x from out.old) }
 {
-    let next = parts.next;
-    let old = parts.a;
-    let done = fastpath::make_step(mark, state, steps, plan, parts.track, old, x, from, out);
-    let mark = done.mark;
+    let done = fastpath::make_step(mark, state, steps, plan, parts.track, parts.a, x, from, out);
     let a = done.a;
-    let track = done.track;
-    let trial = done.trial;
-    let question = done.question;
     Parts {
-        mark,
+        mark: done.mark,
         a,
-        track,
-        trial,
-        question,
-        next: next + done.stored,
+        track: done.track,
+        trial: done.trial,
+        question: done.question,
+        next: parts.next + done.stored,
     }
 }

@@ -7,6 +7,7 @@ ghost use Rattle.flight.specs.Told.{read_from};
 ghost use Rattle.forecaster.specs.Printed.{entry_lines, ending_line};
 
 use flight::Phase;
+use triple::SAMPLE_WIDTH;
 
 // The lines of so many samples of a room, the first of them sample `from`; the place after them.
 fn put_entries(from: u64, count: u64, room: &[f64], out: &mut [u8]) -> usize
@@ -16,7 +17,7 @@ fn put_entries(from: u64, count: u64, room: &[f64], out: &mut [u8]) -> usize
 {
     let mut at = 0usize;
     for i in 0..count {
-        at = lines::put_line(from + i, room, 10 * (i as usize), at, out);
+        at = lines::put_line(from + i, room, SAMPLE_WIDTH * (i as usize), at, out);
     }
     at
 }

@@ -93,6 +93,7 @@ fn keep_on(w: Waiting, s: Stage, count: Count, b: Body, a: Triple) -> Answered
     outcomes::ask(w, count, moves::keep(s, b, a))
 }
 
+// Forward and back stay two functions: each number in them differs, and so does what follows the last point.
 #[tactic(auto, unfolding(crate::specs::Answers::rk4_taken, crate::specs::Answers::forward_ended, run::specs::Moves::moved_on))]
 fn take_forward(i: u8, s: Stage, count: Count, b: Body, a: Triple) -> Answered
     requires { i < 8 }

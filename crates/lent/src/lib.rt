@@ -30,8 +30,8 @@ pub fn start_lent(
     done.outcome
 }
 
-// A function beside `start_lent` and no case of it: each tells what its own start tells, here the cost too.
-// A start in the whole-second profile: the lent run becomes the plain start's, with its cost told; or an ended one where the start is refused.
+// A start in the whole-second profile: the lent run becomes the plain start's, with its cost told; or an ended one where the start is refused. No case
+// of `start_lent`: each tells what its own start tells, here the cost too.
 pub fn start_whole_lent(
     run: &mut Run,
     settings: Settings,

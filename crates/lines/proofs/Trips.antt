@@ -29,10 +29,10 @@ digit_again d h = by_kind (ltb d 10) refl
         let v : 87 + d - 87 ≡ d = omega arith in
         rw (e, is_above 48 57 (87 + d) (omega arith) (omega arith), is_above 65 70 (87 + d) (omega arith) (omega arith), is_within 97 102 (87 + d) (omega arith) (omega arith)) (ap Some v)
 
-value_last : (v : ℕ) (bytes : List ℕ) (b : ℕ) → value_from v (bytes ++ (b ∷ [])) ≡ value_from v bytes * 16 + unwrap_or (digit_of b) 0
+value_last : (v : ℕ) (bytes : List ℕ) (b : ℕ) → value_from v (bytes ++ (b ∷ [])) ≡ value_from v bytes * 16 + unwrap_or (digit_of b) 16
 unfolding value_from
 value_last v [] b = refl
-value_last v (x ∷ bytes) b = value_last (v * 16 + unwrap_or (digit_of x) 0) bytes b
+value_last v (x ∷ bytes) b = value_last (v * 16 + unwrap_or (digit_of x) 16) bytes b
 
 digits_last : (bytes : List ℕ) (b d : ℕ) → digit_of b ≡ Some d → are_digits (bytes ++ (b ∷ [])) ≡ are_digits bytes
 unfolding are_digits
@@ -53,7 +53,7 @@ value_again (suc k) n h =
     let d : n % 16 < 16 = omega arith in
     let b : n < 16 ^ k * 16 = rw pow-suc at h in
     let r : n / 16 < 16 ^ k = omega arith in
-    omega (arith, value_last 0 (digits 16 k (n / 16)) (glyph (n % 16)), value_again k (n / 16) r, ap (λ (o : Option ℕ). unwrap_or o 0) (digit_again (n % 16) d))
+    omega (arith, value_last 0 (digits 16 k (n / 16)) (glyph (n % 16)), value_again k (n / 16) r, ap (λ (o : Option ℕ). unwrap_or o 16) (digit_again (n % 16) d))
 
 pub hex_is_read : HexIsRead
 unfolding hex_of value_of

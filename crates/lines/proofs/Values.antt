@@ -48,7 +48,7 @@ module _ (bytes : List ℕ) (i : ℕ) (h : i < length bytes) where
 
   pub next_value : (d v : ℕ) → digit_of (get_or bytes i 0) ≡ Some d → value_from v (drop i bytes) ≡ value_from (v * 16 + d) (drop (i + 1) bytes)
   unfolding value_from
-  next_value d v e = ap (value_from v) first_is ∙ ap (λ (o : Option ℕ). value_from (v * 16 + unwrap_or o 0) (drop (i + 1) bytes)) e
+  next_value d v e = ap (value_from v) first_is ∙ ap (λ (o : Option ℕ). value_from (v * 16 + unwrap_or o 16) (drop (i + 1) bytes)) e
 
 -- ---- the value of i digits fits into them
 pub one_larger : (v d i : ℕ) → v < 16 ^ i → d < 16 → v * 16 + d < 16 ^ (i + 1)

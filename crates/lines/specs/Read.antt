@@ -13,10 +13,10 @@ unfoldable pub are_digits : List ℕ → Bool
 are_digits [] = true
 are_digits (b ∷ bytes) = is_some (digit_of b) && are_digits bytes
 
--- the number that digits mean, behind those that mean `before`; what is no digit counts as 0
+-- the number that digits mean, behind those that mean `before`; what is no digit counts as 16
 unfoldable pub value_from : ℕ → List ℕ → ℕ
 value_from before [] = before
-value_from before (b ∷ bytes) = value_from (before * 16 + unwrap_or (digit_of b) 0) bytes
+value_from before (b ∷ bytes) = value_from (before * 16 + unwrap_or (digit_of b) 16) bytes
 
 unfoldable pub value_of : List ℕ → ℕ
 value_of bytes = value_from 0 bytes

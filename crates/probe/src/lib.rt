@@ -24,7 +24,7 @@ pub extern "C" fn probe_size(a: Triple) -> f64
     a.size()
 }
 
-// 1 where a step's corrections have come to rest, else 0.
+// For C 1 where a step's corrections have come to rest, else 0.
 #[unsafe(no_mangle)]
 pub extern "C" fn probe_is_at_rest(tol: f64, before: State, after: State) -> u8
     ensures { result ≡ cond (is_at_rest tol before after) 1 0 }

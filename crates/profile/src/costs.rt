@@ -76,7 +76,8 @@ fn fewest_for(s: Settings) -> u64
     1
 }
 
-// The cost of a run of eight steps or more, where K is `steps`.
+// The cost of a run of eight steps or more, where K is `steps`. `Small` stays a `requires`, here and below, as in `run::sound`: a type that holds it
+// would be a second copy of the settings.
 fn cost_for(s: Settings, span: u64, step: u64, steps: u64) -> Cost
     requires { Far span step steps × Small s }
     ensures { result ≡ cost_for s span step }

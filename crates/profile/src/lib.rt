@@ -28,7 +28,7 @@ pub struct Cost {
     pub most: u64,
 }
 
-// What a start in this profile tells. With a refusal the cost is all zero.
+// What a start in this profile tells. With a refusal the cost is all zero, as C has it: so the two stand side by side, and `with_cost` says both.
 #[derive(Clone, Copy)]
 pub struct WholeTold {
     pub outcome: Outcome,
@@ -82,10 +82,13 @@ pub fn forecast(settings: Settings, t0: f64, tf: f64) -> Result<Cost, Refusal>
 fn with_cost(done: Answered, cost: Cost) -> WholeStart
     ensures { result ≡ with_cost done cost }
 {
-    let run = done.run;
-    let outcome = done.outcome;
-    let told = WholeTold { outcome, cost };
-    WholeStart { run, told }
+    WholeStart {
+        run: done.run,
+        told: WholeTold {
+            outcome: done.outcome,
+            cost,
+        },
+    }
 }
 
 // A start in this profile: the plain start's run with question 0, and the cost; or a refusal with a run that is ended.

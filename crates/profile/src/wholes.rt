@@ -24,7 +24,8 @@ pub fn is_whole_time(t: f64) -> bool
     false
 }
 
-// The size of a whole number. Its caller has the number in a record, and learns here that it is an f64.
+// The size of a whole number, whose test stands by itself: `are_whole` makes it of three numbers before one is read. Its caller has the number in a
+// record, of which no type says that it is an f64: that is said here.
 pub fn size_of(x: f64) -> u64
     requires { is_whole_time x ≡ true }
     ensures { (result ≡ unsigned_abs (whole_of x)) × Double x }

@@ -4,8 +4,9 @@ use crate::words::Words;
 use crate::{Replay, text};
 use refusals::Refusal;
 use std::io;
+use triple::SAMPLE_WIDTH;
 
-// More floats than a line has room for, and the numbers told of so many times.
+// More floats than a line has room for, and the numbers told of so many times: buffers are fixed, since there is no heap.
 const MOST: usize = 2048;
 
 const ANSWER: usize = MOST * dense::BETWEEN_NUMBERS;
@@ -25,7 +26,7 @@ impl Replay {
         let Some(n) = words.floats(&mut numbers) else {
             return self.print_bad();
         };
-        if n % 10 != 0 {
+        if n % SAMPLE_WIDTH != 0 {
             return self.print_bad();
         }
         self.samples[..n].copy_from_slice(&numbers[..n]);

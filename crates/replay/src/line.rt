@@ -7,7 +7,7 @@ use std::io;
 // The longest line.
 const LONGEST: usize = 32768;
 
-// The line that is being read, as far as it is; no length where it is too long.
+// The line that is being read, as far as it is; no length where it is too long. The buffer is fixed, since there is no heap.
 #[derive(Drop)]
 pub struct Partial {
     bytes: [u8; LONGEST],

@@ -4,6 +4,7 @@ use crate::case::Case;
 use crate::{ROOM, Replay, away, text};
 use gauss_jackson::{Outcome, Solution};
 use std::io;
+use triple::SAMPLE_WIDTH;
 
 // More answers than any run has.
 const ANSWERS: u64 = 0x1000_0000_0000;
@@ -13,8 +14,8 @@ fn stored(case: &Case, steps: u64) -> usize {
     if !plan::limits::wants_samples(case.settings) {
         return 0;
     }
-    if steps < (ROOM / 10) as u64 {
-        return (steps as usize) * 10 + 10;
+    if steps < (ROOM / SAMPLE_WIDTH) as u64 {
+        return (steps as usize + 1) * SAMPLE_WIDTH;
     }
     0
 }
@@ -54,8 +55,8 @@ impl Replay {
     fn print_samples(&mut self) -> io::Result<()> {
         for (n, numbers) in self
             .samples
-            .chunks_exact(10)
-            .take(self.held / 10)
+            .chunks_exact(SAMPLE_WIDTH)
+            .take(self.held / SAMPLE_WIDTH)
             .enumerate()
         {
             text::print_sample(&mut self.to, n, numbers)?;

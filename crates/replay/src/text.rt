@@ -1,5 +1,6 @@
 // SPDX-License-Identifier: MIT OR Apache-2.0
-// Lines of the transcript, put together in a small buffer and written whole.
+// Lines of the transcript, put together in a small buffer (there is no heap) and written whole: `write!` to the output would write each part by
+// itself, and its floats are not in hex.
 use gauss_jackson::{Question, Solution};
 use refusals::Refusal;
 use std::io::{self, Stdout, Write};

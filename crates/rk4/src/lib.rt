@@ -1,7 +1,7 @@
 // SPDX-License-Identifier: MIT OR Apache-2.0
 // One classical RK4 step from a point over h, without a force of its own: what is asked next, from the accelerations
 // l1, l2, .. got so far, and where the step ends. The first question is the point itself.
-// Each function takes just the slopes that its formula has: a record of them would have some that are not known yet.
+// Each function takes just what its formula has: a record of point, step and slopes would have slopes that are not known yet.
 // The order of rounding is 01's ("RK4: half steps use h·0.5; ..") and, within a stage, the module's rk4_step.
 #![tactic(auto)]
 

@@ -19,13 +19,13 @@ use Rattle.run.specs.declared.waiting.Stage.TheVariants.{First, Second, Third, F
 use Rattle.run.specs.declared.waiting.Waiting.{Waiting}
 use Rattle.run.specs.declared.waiting.Waiting.TheVariants.{Epoch, Forward, Backward, Survey, Pass, Step, Tail, TailSample, Ended, Unknown}
 use Rattle.run.specs.Limits.{numbering, ample}
-use Rattle.run.specs.Waiting.{next_count, count_after, stage_number, mark_at, waits_at}
+use Rattle.run.specs.Waiting.{next_count, wrapped_next, stage_number, mark_at, waits_at}
 use Rattle.run.specs.Sound.{is_idle, forward_counts, backward_counts, rank_of, point_counts, pass_counts, is_started_up, step_counts, body_counts, has_counts, is_sound}
 use Rattle.run.specs.Ready.{Small, Ready}
 use Rattle.run.proofs.Decoding.{read}
 
 -- ---- the counts of the next question
-pub next_is : (c : Count) → c.evals < ample → count_after c ≡ next_count c
+pub next_is : (c : Count) → c.evals < ample → wrapped_next c ≡ next_count c
 unfolding next_count
 next_is c h = let z : (c.evals + 1) % 2 ^ 64 ≡ c.evals + 1 = omega (arith, h) in rw z
 

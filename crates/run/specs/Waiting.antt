@@ -14,8 +14,8 @@ unfoldable pub next_count : Count → Count
 next_count c = record { number = (c.number + 1) % numbering; evals = c.evals + 1 }
 
 -- the same in numbers of 64 bits, which no run within the settings' limits fills
-abbrev pub count_after : Count → Count
-count_after c = record { number = (c.number + 1) % numbering; evals = (c.evals + 1) % 2 ^ 64 }
+abbrev pub wrapped_next : Count → Count
+wrapped_next c = record { number = (c.number + 1) % numbering; evals = (c.evals + 1) % 2 ^ 64 }
 
 abbrev pub stage_number : Stage → ℕ
 stage_number First = 0

@@ -4,7 +4,7 @@
 #![tactic(auto)]
 
 ghost use Rattle.std.specs.Prelude.{◌≡◌};
-ghost use Rattle.run.specs.Waiting.{count_after};
+ghost use Rattle.run.specs.Waiting.{wrapped_next};
 
 use plan::Plan;
 use startup::{Places, Widest};
@@ -46,7 +46,7 @@ pub struct Count {
 impl Count {
     // The counts of the next question; its number wraps to 0 after 65,535.
     pub fn next(self) -> Count
-        ensures { result ≡ count_after self }
+        ensures { result ≡ wrapped_next self }
     {
         Count {
             number: self.number.wrapping_add(1),

@@ -34,7 +34,7 @@ pub enum Waiting {
     TailSample,
     // No question is open.
     Ended,
-    // A number that no waiting point has: such a run is made up.
+    // A number that no waiting point has: such a run is made up. A case and no Option round the others: the rules' theorems speak of made-up runs too.
     Unknown,
 }
 

@@ -52,15 +52,11 @@ pub fn state_at(places: Places, i: u8) -> State
 }
 
 // Point i, with its time.
+#[tactic(auto, unfolding(crate::specs::Points::point_at, crate::specs::Points::state_at))]
 pub fn point_at(t0: f64, h: f64, places: Places, i: u8) -> Point
     ensures { result ≡ point_at t0 h places i }
 {
-    let State { r, v } = state_at(places, i);
-    Point {
-        t: time_at(t0, h, i),
-        r,
-        v,
-    }
+    state_at(places, i).at(time_at(t0, h, i))
 }
 
 // The places with point i at x.

@@ -1,6 +1,6 @@
 // SPDX-License-Identifier: MIT OR Apache-2.0
-// A run from 504 words of content, and whether they are one. The words and the uses go beside one another: no function needs more than these two,
-// and each has its own place in them.
+// A run from 504 words of content, and whether they are one. The words and the uses go beside one another: a record of the
+// two would be made in one function and taken apart in each of the others.
 ghost use Rattle.std.specs.Prelude.{◌≡◌, true, ◌<◌};
 ghost use Rattle.run.specs.Waiting.{waits_at};
 ghost use Rattle.stored.specs.Layout.{uses_of};

@@ -24,11 +24,7 @@ pub fn store(run: Run, out: &mut [u8]) -> Result<(), Refusal>
         return Err(Refusal::NoQuestion);
     }
     let words = content::content_of_run(run);
-    if blocks::write_to(&words, out) {
-        Ok(())
-    } else {
-        Err(Refusal::StoredShape)
-    }
+    blocks::write_to(&words, out).ok_or(Refusal::StoredShape)
 }
 
 // The run of a stored form; or 10, then 11.

@@ -1,7 +1,7 @@
 // SPDX-License-Identifier: MIT OR Apache-2.0
 // Weighted sums of accelerations, the running sums s and S, and the positions and velocities that come of them,
 // in 01's order of rounding. A row is named by a literal wherever it is known, so that its coefficients fold in.
-// The step and the accelerations stay arguments, as the formulas have them.
+// The step and the accelerations stay arguments: together they are no thing that the formulas speak of.
 #![tactic(auto)]
 
 ghost use Rattle.std.specs.Prelude.{◌≡◌, min, length};

@@ -1,6 +1,7 @@
 // SPDX-License-Identifier: MIT OR Apache-2.0
 // Table A, what the position takes of each acceleration (Gauss-Jackson): ten rows of nine. Rows 4 to 9 stand in the decimals of the module,
-// rows 0 to 3 are the mirror of rows 8 to 5, made when the crate is compiled: A[i][k] = A[8-i][8-k].
+// rows 0 to 3 are the mirror of rows 8 to 5, made when the crate is compiled: A[i][k] = A[8-i][8-k]. Written out,
+// since no function makes a constant.
 
 pub const A4: [f64; 9] = [
     1.3897657126823793e-05,

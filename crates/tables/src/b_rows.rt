@@ -1,6 +1,7 @@
 // SPDX-License-Identifier: MIT OR Apache-2.0
 // Table B, what the velocity takes of each acceleration (summed Adams): ten rows of nine. The diagonal and rows 4 to 9 stand in the decimals of
-// the module. Beside the diagonal rows 0 to 3 are the mirror of rows 8 to 5, made when the crate is compiled: B[i][k] = -B[8-i][8-k].
+// the module. Beside the diagonal rows 0 to 3 are the mirror of rows 8 to 5, made when the crate is compiled: B[i][k] = -B[8-i][8-k]. Written out,
+// since no function makes a constant.
 
 // Row i, column i: what the mirror does not give.
 const DIAGONAL: [f64; 9] = [

@@ -10,7 +10,7 @@ ghost use Rattle.tables.specs.Outside.{IsNoughtOutside, a_outside, b_outside};
 mod a_rows;
 mod b_rows;
 
-const OUTSIDE: [f64; 9] = [0.0, 0.0, 0.0, 0.0, 0.0, 0.0, 0.0, 0.0, 0.0];
+const OUTSIDE: [f64; 9] = [0.0; 9];
 
 static A_ROWS: [[f64; 9]; 10] = [
     a_rows::A0,

@@ -3,3 +3,4 @@ pub mod Finite
 pub mod Zeros
 pub mod Signs
 pub mod Sizes
+pub mod Library

@@ -146,19 +146,16 @@ impl Point {
     }
 }
 
-// The absolute value; of -0.0 it is 0.0, as in the Rust. Not `f64::abs`, whose tests stand in another order: that costs each step two
-// instructions more.
+// The absolute value; of -0.0 it is 0.0, as in the Rust.
+#[tactic(auto, using(crate::proofs::Library::absolute_unsigned))]
 pub fn abs(x: f64) -> f64
     ensures { result ≡ absolute x }
 {
-    if x == 0.0 {
-        return 0.0;
-    }
-    if x < 0.0 { -x } else { x }
+    x.abs()
 }
 
 // Neither a NaN nor an infinity: these leave a NaN, which differs from itself, where a finite number leaves 0.0. Not `f64::is_finite`, whose
-// test against 0.0 costs each answer twelve instructions more.
+// test against 0.0 costs each answer twelve instructions more, past the bar of 1.02 in docs/BENCH.md.
 pub fn is_finite(x: f64) -> bool
     ensures { result ≡ is_finite x }
 {
