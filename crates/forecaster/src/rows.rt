@@ -1,5 +1,5 @@
 // SPDX-License-Identifier: MIT OR Apache-2.0
-// What a flight told, in lines, into bytes that have room for the longest piece.
+// What a flight told, in lines, into bytes that have room for the longest piece. The bytes stay a slice with that bound: a longer one may be lent.
 ghost use Rattle.std.specs.Prelude.{◌≡◌, ◌++◌, ◌+◌, ◌*◌, ◌^◌, ◌≤◌, ◌<◌, length};
 ghost use Rattle.lines.specs.Put.{over};
 ghost use Rattle.flight.specs.Flight.{ending_in};
