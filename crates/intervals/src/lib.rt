@@ -51,8 +51,8 @@ fn last_interval(samples: &[f64]) -> usize
     table::count_of(samples).saturating_sub(2)
 }
 
-// Which samples lie before a single time, or at it. The direction is a truth, as in the definitions; where it is asked at each of many samples, the
-// loop is made for each.
+// Which samples lie before a single time, or at it. The direction is a truth, as in the definitions; the search, which goes over a whole table, has
+// a loop for each.
 #[tactic(auto, unfolding(crate::specs::Intervals::reached))]
 fn is_reached(forward: bool, time: f64, t: f64) -> bool
     ensures { result ≡ reached forward time t }

@@ -1,5 +1,6 @@
 // SPDX-License-Identifier: MIT OR Apache-2.0
-// A startup pass: every point but the epoch corrected from the same accelerations, and the test that ends the passes.
+// A startup pass: every point but the epoch corrected from the same accelerations, and the test that ends the passes. The step and the
+// accelerations stay arguments, as in `sums`.
 ghost use Rattle.std.specs.Prelude.{◌≡◌};
 ghost use Rattle.startup.specs.Passes.{points_on, points_back, pass_places, last_sums, widened, calm_at, is_settled};
 
