@@ -186,7 +186,7 @@ pub extern "C" fn gj_interpolate(t: f64, samples: &[f64], out: &mut [f64]) -> u3
     u32::from(refusals::number_told(dense::interpolate(t, samples, out)))
 }
 
-// The same at each of the times, in one walk through the samples.
+// The same at each of the times, in one walk through the samples; for C a number again.
 #[unsafe(no_mangle)]
 pub extern "C" fn gj_interpolate_batch(times: &[f64], samples: &[f64], out: &mut [f64]) -> u32
     ensures value { result ≡ number_told (judged times.now samples.now out.old) }

@@ -63,6 +63,7 @@ fn refused_by(refusal: Refusal, stored: u64) -> Reply
     }
 }
 
+// Of an outcome and a count, which come together only where a call stores samples: so no `From` of one value.
 #[tactic(auto, unfolding(crate::specs::Reply::reply_of))]
 pub fn reply_of(outcome: Outcome, stored: u64) -> Reply
     ensures { result ≡ reply_of outcome stored }

@@ -29,7 +29,7 @@ fn read_content(bytes: &[u8; 2048], b: usize, content: &mut [u32; 504]) -> u32
     sum
 }
 
-// Whether block b has its number and its check; its content is taken either way.
+// Whether block b has its number and its check; its content is taken either way, as the clause `content_after` says: so the answer is no Option.
 fn read_block(bytes: &[u8; 2048], b: usize, content: &mut [u32; 504]) -> bool
     requires { b < 4 }
     ensures value { result ≡ block_is_whole bytes.now b }
@@ -41,7 +41,7 @@ fn read_block(bytes: &[u8; 2048], b: usize, content: &mut [u32; 504]) -> bool
     (number as usize == b) & (check == sum)
 }
 
-// Whether the bytes are four blocks, each with its number and its check; their content is taken either way.
+// Whether the bytes are four blocks, each with its number and its check; their content is taken either way, as `content_after` says here too.
 pub fn read_form(bytes: &[u8; 2048], content: &mut [u32; 504]) -> bool
     ensures value { result ≡ is_whole bytes.now }
     ensures content_after { content.new ≡ filled (content_at bytes.now) 504 content.old }

@@ -46,6 +46,7 @@ fn main(rt: HostRuntime) -> io::Result<()> {
     let n = read_full(&mut rt.stdin(), &mut text)?;
     let mut now = forecaster::begin(&text[..n]);
     let mut out = rt.stdout();
+    // For the longest piece, since there is no heap.
     let mut bytes = [0u8; forecaster::LONGEST];
     for _ in 0..TURNS {
         if now.is_over() {

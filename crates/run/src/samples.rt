@@ -72,7 +72,7 @@ fn grid_sample(b: Body, i: u8) -> Sample
     questions::grid_point(b, i).with(nine::element(b.a, usize::from(i)))
 }
 
-// Whether samples are wanted is not the room's to know: the plan says it.
+// Whether samples are wanted is not the room's to know: the plan says it. It stays a truth: it decides only whether there is a sample to place.
 impl Room<'_> {
     pub fn has_place(&self, wanted: bool, n: u64, m: u64) -> bool
         ensures { result ≡ has_place wanted self.now.from n m (length self.now.numbers.now) }

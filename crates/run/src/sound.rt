@@ -31,7 +31,7 @@ fn is_idle(b: Body) -> bool
     b.startup_iters == 0 && b.track.steps == 0
 }
 
-// Forward and back stay two functions here and in `taking`: each number in them differs, and so does what follows the last point.
+// Forward and back stay two functions: each number in them differs.
 #[tactic(auto, unfolding(crate::specs::Sound::forward_counts))]
 fn forward_counts(i: u8, s: Stage, e: u64) -> bool
     ensures { result ≡ forward_counts i s e }

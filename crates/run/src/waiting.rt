@@ -34,7 +34,8 @@ pub enum Waiting {
     TailSample,
     // No question is open.
     Ended,
-    // A number that no waiting point has: such a run is made up. A case and no Option round the others: the rules' theorems speak of made-up runs too.
+    // A number that no waiting point has: such a run is made up. A case and no Option round the others: `has_counts` and `answered_at` say of it what
+    // they say of each.
     Unknown,
 }
 

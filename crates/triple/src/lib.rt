@@ -154,13 +154,12 @@ pub fn abs(x: f64) -> f64
     x.abs()
 }
 
-// Neither a NaN nor an infinity: these leave a NaN, which differs from itself, where a finite number leaves 0.0. Not `f64::is_finite`, whose
-// test against 0.0 costs each answer twelve instructions more, past the bar of 1.02 in docs/BENCH.md.
+// Neither a NaN nor an infinity.
+#[tactic(auto, using(crate::proofs::Library::finite_alike))]
 pub fn is_finite(x: f64) -> bool
     ensures { result ≡ is_finite x }
 {
-    let rest = x - x;
-    rest == rest
+    x.is_finite()
 }
 
 // a, unless b is greater: a NaN in b is passed over. Not `f64::max`, which passes one in a over too, and so would change the verdicts.
