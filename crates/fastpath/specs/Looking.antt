@@ -34,8 +34,8 @@ is_made n p s t a =
     (is_at_rest p.settings.corrector_tol t.state (corrected_state p.h s t.fixed a))
     true
 
-unfoldable pub ended : (n : ℕ) → Plan → Sums → Trial → Triple → Reached
-ended n p s t a = cond (is_made n p s t a) (Made (reached n p s t a)) (Open (reached n p s t a))
+unfoldable pub reach : (n : ℕ) → Plan → Sums → Trial → Triple → Reached
+reach n p s t a = cond (is_made n p s t a) (Made (reached n p s t a)) (Open (reached n p s t a))
 
 -- a further step follows at t, after n of them, and the sample that is due, if any, has its place
 unfoldable pub is_followed : Plan → (t : Float) (n from room : ℕ) → Bool

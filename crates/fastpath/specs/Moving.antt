@@ -5,7 +5,7 @@ use Rattle.std.specs.Float.{binary64}
 use Rattle.std.specs.Float.Ieee.{add}
 use Rattle.triple.specs.declared.Triple.{Triple}
 use Rattle.triple.specs.declared.State.{State}
-use Rattle.triple.specs.Sampled.{state_at}
+use Rattle.triple.specs.Sampled.{at_time}
 use Rattle.triple.specs.Nine.{slid}
 use Rattle.sums.specs.Sums.{on_sums, predicted_state, fixed_of}
 use Rattle.plan.specs.declared.Plan.{Plan}
@@ -22,7 +22,7 @@ use Rattle.fastpath.specs.declared.Tried.{Tried}
 use Rattle.fastpath.specs.declared.Stepped.{Stepped}
 
 unfoldable pub asked_at : Mark → (t : Float) → State → Question
-asked_at m t x = question_under m.count.number (state_at x t)
+asked_at m t x = question_under m.count.number (at_time x t)
 
 -- the open step once more
 unfoldable pub asked_again : Mark → State → Plan → Track → Trial → Tried

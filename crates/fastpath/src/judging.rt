@@ -2,7 +2,7 @@
 // What an answer at a step's end leads to: where the step ends by it, whether it is made there, and whether a further one follows.
 ghost use Rattle.std.specs.Prelude.{◌≡◌, ◌<◌};
 ghost use Rattle.run.specs.Limits.{ample};
-ghost use Rattle.fastpath.specs.Looking.{ended, is_followed, looked_again, looked_on};
+ghost use Rattle.fastpath.specs.Looking.{reach, is_followed, looked_again, looked_on};
 
 use crate::Look;
 use plan::{Plan, limits};
@@ -18,9 +18,9 @@ pub enum Reached {
     Open(State),
 }
 
-#[tactic(auto, unfolding(crate::specs::Looking::ended, crate::specs::Looking::is_made, crate::specs::Looking::reached))]
+#[tactic(auto, unfolding(crate::specs::Looking::reach, crate::specs::Looking::is_made, crate::specs::Looking::reached))]
 pub fn reach(n: u8, plan: Plan, sums: Sums, trial: Trial, a: Triple) -> Reached
-    ensures { result ≡ ended n plan sums trial a }
+    ensures { result ≡ reach n plan sums trial a }
 {
     let before = trial.state;
     if u64::from(n) >= plan.settings.max_corrector_iters {

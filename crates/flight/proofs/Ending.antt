@@ -21,7 +21,7 @@ use Rattle.rules.proofs.Rest.{rest_at, rest, opened, line_of}
 use Rattle.counting.specs.Paths.{Claims}
 use Rattle.counting.proofs.Rooms.{fifty_numbers}
 use Rattle.flight.specs.declared.Flight.{Flight}
-use Rattle.flight.specs.Flight.{asks, taken_off, beyond, is_ready, flown_on}
+use Rattle.flight.specs.Flight.{is_asking, taken_off, beyond, is_ready, flown_on}
 use Rattle.flight.specs.Story.{Story, story_of}
 use Rattle.flight.specs.Told.{flown_through}
 use Rattle.flight.specs.Ends.{Fifty, AlwaysEnds}
@@ -45,7 +45,7 @@ module _ (p : Plan) (c : Claims) where
   few : {m : ℕ} {f : Flight} {st : Story} (o : Open p c m f st) → o.evals < ample
   few {m} {f} o = subst (λ (l : Line). evals_in l < ample) o.line (few_evals f.run)
 
-  ready : (m : ℕ) (f : Flight) (numbers : List Float) (st : Story) → sample_width * 5 ≤ length numbers → Open p c m f st → is_ready (asks f) f.next f.next (length numbers) ≡ true
+  ready : (m : ℕ) (f : Flight) (numbers : List Float) (st : Story) → sample_width * 5 ≤ length numbers → Open p c m f st → is_ready (is_asking f) f.next f.next (length numbers) ≡ true
   unfolding is_ready has_room
   ready m f numbers st h o =
       let e = few o in
@@ -79,9 +79,9 @@ always_ends s t0 tf r0 v0 rooms h k = record { over = done; told = (tells_the_st
     f : Flight
     f = taken_off s t0 tf r0 v0
 
-    go : {left : Story} → Tells p c (0 + length rooms) (flown_through f rooms) left → asks (flown_through f rooms) ≡ false
+    go : {left : Story} → Tells p c (0 + length rooms) (flown_through f rooms) left → is_asking (flown_through f rooms) ≡ false
     go (inl o) = let e = few p c o in let y = o.since in absurd (omega arith)
     go (inr o) = o.asks_none
 
-    done : asks (flown_through f rooms) ≡ false
+    done : is_asking (flown_through f rooms) ≡ false
     done = go (calls_on p c rooms 0 f (story_of s t0 tf r0 v0) h (start_tells s t0 tf r0 v0)).1

@@ -13,17 +13,17 @@ use Rattle.run.specs.Samples.{is_placed}
 use Rattle.run.proofs.Counts.{both}
 use Rattle.flight.specs.declared.Phase.TheVariants.{Over}
 use Rattle.flight.specs.declared.Flight.{Flight}
-use Rattle.flight.specs.Flight.{asks, beyond, is_ready, answered_once, flown_by}
+use Rattle.flight.specs.Flight.{is_asking, beyond, is_ready, answered_once, flown_by}
 
 module _ (from : ℕ) (f : Flight) (numbers : List Float) where
   abbrev ready : Type 0
-  ready = is_ready (asks f) from f.next (length numbers) ≡ true
+  ready = is_ready (is_asking f) from f.next (length numbers) ≡ true
 
   pub flown_more : (left next : ℕ) → left ≡ suc next → ready → flown_by left from f numbers ≡ flown_by next from (answered_once from f numbers).flight (answered_once from f numbers).out
   unfolding flown_by
   flown_more left next e r = rw (e, r)
 
-  pub flown_stops : (left : ℕ) → is_ready (asks f) from f.next (length numbers) ≡ false → flown_by left from f numbers ≡ record { flight = f; out = numbers }
+  pub flown_stops : (left : ℕ) → is_ready (is_asking f) from f.next (length numbers) ≡ false → flown_by left from f numbers ≡ record { flight = f; out = numbers }
   unfolding flown_by
   flown_stops zero r = refl
   flown_stops (suc left) r = rw r (refl)

@@ -28,7 +28,7 @@ use Rattle.counting.proofs.Marching.{by_the_clock}
 use Rattle.counting.specs.Rooms.{Holds}
 use Rattle.counting.proofs.Ahead.{put_more, reached, samples_ahead}
 use Rattle.flight.specs.declared.Flight.{Flight}
-use Rattle.flight.specs.Flight.{asks_in, asks, ending, taken_off, Flown, is_ready, answered_once, flown_by, piece, flown_on}
+use Rattle.flight.specs.Flight.{asks_in, is_asking, ending_of, taken_off, Flown, is_ready, answered_once, flown_by, piece, flown_on}
 use Rattle.flight.specs.Story.{Entry, Story, numbered, before, story_by, story_of}
 use Rattle.flight.specs.Told.{read_from, handed_out, flown_through, all_handed_out, TellsTheStory}
 use Rattle.flight.proofs.Pieces.{flown_stops, ready_is}
@@ -74,11 +74,11 @@ module _ (p : Plan) (c : Claims) where
   abbrev pub Piece : (left : ℕ) → Type 0
   Piece left = (m from : ℕ) (f : Flight) (numbers : List Float) (st : Story) → sample_width * (f.next - from) ≤ length numbers → Tells p c m f st → Goes p c m from f numbers st (flown_by left from f numbers)
 
-  pub turn : (left : ℕ) → Piece left → (m from : ℕ) (f : Flight) (numbers : List Float) (st : Story) → is_ready (asks f) from f.next (length numbers) ≡ true → Open p c m f st
+  pub turn : (left : ℕ) → Piece left → (m from : ℕ) (f : Flight) (numbers : List Float) (st : Story) → is_ready (is_asking f) from f.next (length numbers) ≡ true → Open p c m f st
       → Goes p c (m + 1) from f numbers st (flown_by (suc left) from f numbers)
   unfolding flown_by
   turn left go_on m from f numbers st r o =
-      let x = once_goes p c m from f numbers st o (ready_is (asks f) from f.next (length numbers) r).1 in
+      let x = once_goes p c m from f numbers st o (ready_is (is_asking f) from f.next (length numbers) r).1 in
       let g = answered_once from f numbers in
       let w = same_size x in
       let z = x.room in
@@ -87,11 +87,11 @@ module _ (p : Plan) (c : Claims) where
   pub piece_goes : (left : ℕ) → Piece left
   unfolding flown_by
   piece_goes zero m from f numbers st h t = none h t
-  piece_goes (suc left) m from f numbers st h t = go (piece_goes left) (is_ready (asks f) from f.next (length numbers)) refl t
+  piece_goes (suc left) m from f numbers st h t = go (piece_goes left) (is_ready (is_asking f) from f.next (length numbers)) refl t
     where
-      go : Piece left → (d : Bool) → is_ready (asks f) from f.next (length numbers) ≡ d → Tells p c m f st → Goes p c m from f numbers st (flown_by (suc left) from f numbers)
+      go : Piece left → (d : Bool) → is_ready (is_asking f) from f.next (length numbers) ≡ d → Tells p c m f st → Goes p c m from f numbers st (flown_by (suc left) from f numbers)
       go on true r (inl o) = goes_less (omega arith) (turn left on m from f numbers st r o)
-      go on true r (inr o) = absurd (false≢true (sym o.asks_none ∙ (ready_is (asks f) from f.next (length numbers) r).0))
+      go on true r (inr o) = absurd (false≢true (sym o.asks_none ∙ (ready_is (is_asking f) from f.next (length numbers) r).0))
       go on false r t = subst (Goes p c m from f numbers st) (sym (flown_stops from f numbers (suc left) r)) (none h t)
 
   -- ---- a call, with a room that begins at the next sample
@@ -154,7 +154,7 @@ module _ (s : Settings) (t0 tf : Float) (r0 v0 : Triple) where
       record {
         left = x.left;
         so_far = sym x.tale;
-        all = λ (e : asks (flown_through f rooms) ≡ false). over e x.tells;
+        all = λ (e : is_asking (flown_through f rooms) ≡ false). over e x.tells;
       }
     where
       f : Flight
@@ -163,9 +163,9 @@ module _ (s : Settings) (t0 tf : Float) (r0 v0 : Triple) where
       x : Through plan (claims plan) 0 f rooms (story_of s t0 tf r0 v0)
       x = through plan (claims plan) rooms 0 f (story_of s t0 tf r0 v0) start_tells
 
-      over : asks (flown_through f rooms) ≡ false → Tells plan (claims plan) 0 (flown_through f rooms) x.left
-          → record { samples = all_handed_out f rooms; ending = ending (flown_through f rooms) } ≡ story_of s t0 tf r0 v0
+      over : is_asking (flown_through f rooms) ≡ false → Tells plan (claims plan) 0 (flown_through f rooms) x.left
+          → record { samples = all_handed_out f rooms; ending = ending_of (flown_through f rooms) } ≡ story_of s t0 tf r0 v0
       over e (inl o) = absurd (false≢true (sym e ∙ ap asks_in o.phase))
       over e (inr o) =
           sym (x.tale ∙ ap (before (all_handed_out f rooms)) o.tale
-          ∙ ap (λ (r : List Entry). record { samples = r; ending = ending (flown_through f rooms) }) (append-nil (all_handed_out f rooms)))
+          ∙ ap (λ (r : List Entry). record { samples = r; ending = ending_of (flown_through f rooms) }) (append-nil (all_handed_out f rooms)))

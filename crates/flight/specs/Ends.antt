@@ -4,7 +4,7 @@ use Rattle.triple.specs.declared.Triple.{Triple}
 use Rattle.triple.specs.Sampled.{sample_width}
 use Rattle.plan.specs.declared.Settings.{Settings}
 use Rattle.run.specs.Limits.{ample}
-use Rattle.flight.specs.Flight.{asks, ending, taken_off}
+use Rattle.flight.specs.Flight.{is_asking, ending_of, taken_off}
 use Rattle.flight.specs.Story.{story_of}
 use Rattle.flight.specs.Told.{flown_through, all_handed_out}
 
@@ -15,8 +15,8 @@ Fifty (numbers ∷ rooms) = (sample_width * 5 ≤ length numbers) × Fifty rooms
 
 -- no question is open, and the whole story was handed out
 pub record EndsTold (s : Settings) (t0 tf : Float) (r0 v0 : Triple) (rooms : List (List Float)) : Type 0 where
-  pub over : asks (flown_through (taken_off s t0 tf r0 v0) rooms) ≡ false
-  pub told : record { samples = all_handed_out (taken_off s t0 tf r0 v0) rooms; ending = ending (flown_through (taken_off s t0 tf r0 v0) rooms) } ≡ story_of s t0 tf r0 v0
+  pub over : is_asking (flown_through (taken_off s t0 tf r0 v0) rooms) ≡ false
+  pub told : record { samples = all_handed_out (taken_off s t0 tf r0 v0) rooms; ending = ending_of (flown_through (taken_off s t0 tf r0 v0) rooms) } ≡ story_of s t0 tf r0 v0
 
 -- after so many calls: `ample` is above every count of answers
 abbrev pub AlwaysEnds : Type 0

@@ -27,11 +27,11 @@ ending_in (Asks q) = 0
 ending_in (Over (Ok x)) = 0
 ending_in (Over (Err e)) = number_of e
 
-abbrev pub asks : Flight → Bool
-asks f = asks_in f.phase
+abbrev pub is_asking : Flight → Bool
+is_asking f = asks_in f.phase
 
-abbrev pub ending : Flight → ℕ
-ending f = ending_in f.phase
+abbrev pub ending_of : Flight → ℕ
+ending_of f = ending_in f.phase
 
 -- ---- a flight after a call: its question, or how it ended; `next` is the number of the next sample
 unfoldable pub phase_of : Outcome → Phase
@@ -82,7 +82,7 @@ is_ready asks from next room = asks && is_placed from next 5 room && ltb next be
 unfoldable pub flown_by : (left from : ℕ) → Flight → List Float → Flown
 flown_by zero from f numbers = record { flight = f; out = numbers }
 flown_by (suc left) from f numbers =
-    cond (is_ready (asks f) from f.next (length numbers))
+    cond (is_ready (is_asking f) from f.next (length numbers))
     (flown_by left from (answered_once from f numbers).flight (answered_once from f numbers).out)
     (record { flight = f; out = numbers })
 

@@ -4,7 +4,7 @@ use Rattle.triple.specs.declared.Triple.{Triple}
 use Rattle.plan.specs.declared.Settings.{Settings}
 use Rattle.intervals.specs.Table.{sample_of}
 use Rattle.flight.specs.declared.Flight.{Flight}
-use Rattle.flight.specs.Flight.{asks, ending, Flown, taken_off, flown_on}
+use Rattle.flight.specs.Flight.{is_asking, ending_of, Flown, taken_off, flown_on}
 use Rattle.flight.specs.Story.{Entry, Story, before, story_of}
 
 -- m samples of a room, from the i-th on, which is sample n: the i-th has the ten numbers from place 10i on
@@ -29,5 +29,5 @@ all_handed_out f (numbers ∷ rooms) = handed_out f (flown_on f numbers) ++ all_
 pub record TellsTheStory (s : Settings) (t0 tf : Float) (r0 v0 : Triple) (rooms : List (List Float)) : Type 0 where
   pub left : Story
   pub so_far : before (all_handed_out (taken_off s t0 tf r0 v0) rooms) left ≡ story_of s t0 tf r0 v0
-  pub all : asks (flown_through (taken_off s t0 tf r0 v0) rooms) ≡ false
-      → record { samples = all_handed_out (taken_off s t0 tf r0 v0) rooms; ending = ending (flown_through (taken_off s t0 tf r0 v0) rooms) } ≡ story_of s t0 tf r0 v0
+  pub all : is_asking (flown_through (taken_off s t0 tf r0 v0) rooms) ≡ false
+      → record { samples = all_handed_out (taken_off s t0 tf r0 v0) rooms; ending = ending_of (flown_through (taken_off s t0 tf r0 v0) rooms) } ≡ story_of s t0 tf r0 v0

@@ -18,7 +18,7 @@ use Rattle.point_mass.specs.Force.{pull_at}
 use Rattle.flight.specs.declared.Flight.{Flight}
 use Rattle.flight.specs.declared.Phase.{Phase}
 use Rattle.flight.specs.declared.Phase.TheVariants.{Asks, Over}
-use Rattle.flight.specs.Flight.{asks, Flown, flight_of, flown_after, landed_low, answered_by, pulled_by, answered_in, answered_once, beyond, is_ready, flown_by, piece, flown_on}
+use Rattle.flight.specs.Flight.{is_asking, Flown, flight_of, flown_after, landed_low, answered_by, pulled_by, answered_in, answered_once, beyond, is_ready, flown_by, piece, flown_on}
 use Rattle.flight.proofs.Stored.{stored_few}
 use Rattle.flight.proofs.Pieces.{ready_is}
 
@@ -66,10 +66,10 @@ nearer m n h k f = go (ltb m n) refl
     go true e = f (ltb-true m n e)
     go false e = let z : n ≤ m = ltb-false m n e in omega arith
 
-one_more : (left : ℕ) → Goes left → (from : ℕ) (f : Flight) (numbers : List Float) → is_ready (asks f) from f.next (length numbers) ≡ true
+one_more : (left : ℕ) → Goes left → (from : ℕ) (f : Flight) (numbers : List Float) → is_ready (is_asking f) from f.next (length numbers) ≡ true
     → StaysWithin from f numbers (flown_by left from (answered_once from f numbers).flight (answered_once from f numbers).out)
 one_more left rest from f numbers e =
-    let r = ready_is (asks f) from f.next (length numbers) e in
+    let r = ready_is (is_asking f) from f.next (length numbers) e in
     let p = placed_is from f.next 5 (length numbers) r.1 in
     let one = once from f numbers in
     let a = one.forth in
@@ -91,12 +91,12 @@ one_more left rest from f numbers e =
 within : (left : ℕ) → Goes left
 unfolding flown_by
 within zero from f numbers h k = record { forth = omega arith; placed = k; near = λ z. omega arith; same = refl }
-within (suc left) from f numbers h k = go (is_ready (asks f) from f.next (length numbers)) refl (one_more left (within left) from f numbers)
+within (suc left) from f numbers h k = go (is_ready (is_asking f) from f.next (length numbers)) refl (one_more left (within left) from f numbers)
   where
     on : Flown
     on = flown_by left from (answered_once from f numbers).flight (answered_once from f numbers).out
 
-    go : (d : Bool) → is_ready (asks f) from f.next (length numbers) ≡ d → (is_ready (asks f) from f.next (length numbers) ≡ true → StaysWithin from f numbers on)
+    go : (d : Bool) → is_ready (is_asking f) from f.next (length numbers) ≡ d → (is_ready (is_asking f) from f.next (length numbers) ≡ true → StaysWithin from f numbers on)
         → StaysWithin from f numbers (cond d on (record { flight = f; out = numbers }))
     go true e w = w e
     go false e w = record { forth = omega arith; placed = k; near = λ z. omega arith; same = refl }

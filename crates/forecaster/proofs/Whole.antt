@@ -16,7 +16,7 @@ use Rattle.lines.specs.Nine.{read_nine}
 use Rattle.flight.specs.declared.Phase.{Phase}
 use Rattle.flight.specs.declared.Phase.TheVariants.{Asks, Over as Landed}
 use Rattle.flight.specs.declared.Flight.{Flight}
-use Rattle.flight.specs.Flight.{asks_in, ending_in, asks, ending, Flown, taken_off, is_ready, flown_on, piece}
+use Rattle.flight.specs.Flight.{asks_in, ending_in, is_asking, ending_of, Flown, taken_off, is_ready, flown_on, piece}
 use Rattle.flight.specs.Story.{Entry, story_of}
 use Rattle.flight.specs.Told.{read_from, handed_out, flown_through, all_handed_out}
 use Rattle.flight.specs.Ends.{Fifty}
@@ -26,7 +26,7 @@ use Rattle.flight.proofs.Ending.{always_ends}
 use Rattle.forecaster.specs.declared.Forecast.{Forecast}
 use Rattle.forecaster.specs.declared.Forecast.TheVariants.{Unread, Flying, Over}
 use Rattle.forecaster.specs.Printed.{ten_of, entry_lines, ending_line, story_lines, float_at, triple_at, settings_with, story_for, printed_of, printed}
-use Rattle.forecaster.specs.Pieces.{is_over, Piece, blank_room, begun_with, begun_of, begun, forecast_of, flown_piece, piece_of}
+use Rattle.forecaster.specs.Pieces.{is_over, Piece, blank_room, begun_with, begun_of, begun, carried_on, flown_piece, piece_of}
 use Rattle.forecaster.specs.Whole.{forecast_after, printed_after, PrintsAll}
 use Rattle.forecaster.proofs.Unread.{over_still, unread_so_far, unread_all, unread_ends}
 
@@ -42,11 +42,11 @@ abbrev rooms : ℕ → List (List Float)
 rooms k = replicate k blank_room
 
 -- ---- a flight that asks nothing stands still and hands out nothing
-not_ready : (f : Flight) (from room : ℕ) → asks f ≡ false → is_ready (asks f) from f.next room ≡ false
+not_ready : (f : Flight) (from room : ℕ) → is_asking f ≡ false → is_ready (is_asking f) from f.next room ≡ false
 unfolding is_ready
 not_ready f from room e = rw e
 
-still : (f : Flight) → asks f ≡ false → flown_on f blank_room ≡ record { flight = f; out = blank_room }
+still : (f : Flight) → is_asking f ≡ false → flown_on f blank_room ≡ record { flight = f; out = blank_room }
 unfolding flown_on
 still f e = flown_stops f.next f blank_room piece (not_ready f f.next (length blank_room) e)
 
@@ -54,7 +54,7 @@ none_told : (f : Flight) → handed_out f (record { flight = f; out = blank_room
 unfolding handed_out read_from
 none_told f = let z : f.next - f.next ≡ 0 = omega arith in rw z
 
-still_through : (k : ℕ) (f : Flight) → asks f ≡ false → (flown_through f (rooms k) ≡ f) × (all_handed_out f (rooms k) ≡ [])
+still_through : (k : ℕ) (f : Flight) → is_asking f ≡ false → (flown_through f (rooms k) ≡ f) × (all_handed_out f (rooms k) ≡ [])
 unfolding flown_through all_handed_out
 still_through zero f e = (refl, refl)
 still_through (suc k) f e =
@@ -65,35 +65,35 @@ still_through (suc k) f e =
 
 -- ---- one that flies goes on as its flight does
 abbrev after : (d : Bool) → Flight → Flown → Piece
-after d f g = record { forecast = cond d (Flying g.flight) Over; bytes = entry_lines (handed_out f g) ++ ending_line (ending g.flight) }
+after d f g = record { forecast = cond d (Flying g.flight) Over; bytes = entry_lines (handed_out f g) ++ ending_line (ending_of g.flight) }
 
-flying_piece : (f : Flight) (d : Bool) → asks (flown_on f blank_room).flight ≡ d → piece_of (Flying f) ≡ after d f (flown_on f blank_room)
-unfolding piece_of flown_piece forecast_of
+flying_piece : (f : Flight) (d : Bool) → is_asking (flown_on f blank_room).flight ≡ d → piece_of (Flying f) ≡ after d f (flown_on f blank_room)
+unfolding piece_of flown_piece carried_on
 flying_piece f d e = ap (λ (b : Bool). after b f (flown_on f blank_room)) e
 
 over_by : (d : Bool) (f : Flight) → is_over (cond d (Flying f) Over) ≡ not d
 over_by true f = refl
 over_by false f = refl
 
-over_after : (k : ℕ) (f : Flight) → is_over (forecast_after (suc k) (Flying f)) ≡ not (asks (flown_through f (rooms (suc k))))
+over_after : (k : ℕ) (f : Flight) → is_over (forecast_after (suc k) (Flying f)) ≡ not (is_asking (flown_through f (rooms (suc k))))
 unfolding forecast_after flown_through
-over_after zero f = ap (λ (p : Piece). is_over p.forecast) (flying_piece f _ refl) ∙ over_by (asks (flown_on f blank_room).flight) (flown_on f blank_room).flight
-over_after (suc k) f = go (asks (flown_on f blank_room).flight) refl (over_after k (flown_on f blank_room).flight)
+over_after zero f = ap (λ (p : Piece). is_over p.forecast) (flying_piece f _ refl) ∙ over_by (is_asking (flown_on f blank_room).flight) (flown_on f blank_room).flight
+over_after (suc k) f = go (is_asking (flown_on f blank_room).flight) refl (over_after k (flown_on f blank_room).flight)
   where
     g : Flight
     g = (flown_on f blank_room).flight
 
-    go : (d : Bool) → asks g ≡ d → is_over (forecast_after (suc k) (Flying g)) ≡ not (asks (flown_through g (rooms (suc k))))
-        → is_over (forecast_after (suc k) (piece_of (Flying f)).forecast) ≡ not (asks (flown_through g (rooms (suc k))))
+    go : (d : Bool) → is_asking g ≡ d → is_over (forecast_after (suc k) (Flying g)) ≡ not (is_asking (flown_through g (rooms (suc k))))
+        → is_over (forecast_after (suc k) (piece_of (Flying f)).forecast) ≡ not (is_asking (flown_through g (rooms (suc k))))
     go true e h = ap (λ (p : Piece). is_over (forecast_after (suc k) p.forecast)) (flying_piece f true e) ∙ h
     go false e h =
         ap (λ (p : Piece). is_over (forecast_after (suc k) p.forecast)) (flying_piece f false e)
         ∙ ap is_over (over_still (suc k)).0
-        ∙ sym (ap (λ (x : Flight). not (asks x)) (still_through (suc k) g e).0 ∙ ap not e)
+        ∙ sym (ap (λ (x : Flight). not (is_asking x)) (still_through (suc k) g e).0 ∙ ap not e)
 
 -- what was printed: the lines of what was handed out, and the ending once it is over
 abbrev told : (k : ℕ) → Flight → List ℕ
-told k f = entry_lines (all_handed_out f (rooms k)) ++ cond (is_over (forecast_after k (Flying f))) (ending_line (ending (flown_through f (rooms k)))) []
+told k f = entry_lines (all_handed_out f (rooms k)) ++ cond (is_over (forecast_after k (Flying f))) (ending_line (ending_of (flown_through f (rooms k)))) []
 
 no_ending : (h : Phase) → asks_in h ≡ true → ending_line (ending_in h) ≡ []
 unfolding ending_line
@@ -103,7 +103,7 @@ no_ending (Landed x) e = absurd (false≢true e)
 printed_is : (k : ℕ) (f : Flight) → printed_after k (Flying f) ≡ told k f
 unfolding printed_after forecast_after flown_through all_handed_out entry_lines
 printed_is zero f = refl
-printed_is (suc k) f = go (asks (flown_on f blank_room).flight) refl (printed_is k (flown_on f blank_room).flight)
+printed_is (suc k) f = go (is_asking (flown_on f blank_room).flight) refl (printed_is k (flown_on f blank_room).flight)
   where
     w : Flown
     w = flown_on f blank_room
@@ -114,26 +114,26 @@ printed_is (suc k) f = go (asks (flown_on f blank_room).flight) refl (printed_is
     here : List Entry
     here = handed_out f w
 
-    go : (d : Bool) → asks g ≡ d → printed_after k (Flying g) ≡ told k g
+    go : (d : Bool) → is_asking g ≡ d → printed_after k (Flying g) ≡ told k g
         → (piece_of (Flying f)).bytes ++ printed_after k (piece_of (Flying f)).forecast
-        ≡ entry_lines (here ++ all_handed_out g (rooms k)) ++ cond (is_over (forecast_after k (piece_of (Flying f)).forecast)) (ending_line (ending (flown_through g (rooms k)))) []
+        ≡ entry_lines (here ++ all_handed_out g (rooms k)) ++ cond (is_over (forecast_after k (piece_of (Flying f)).forecast)) (ending_line (ending_of (flown_through g (rooms k)))) []
     go true e h =
         let q = flying_piece f true e in
         ap (λ (p : Piece). p.bytes ++ printed_after k p.forecast) q
         ∙ ap₂ (λ (x y : List ℕ). x ++ y) (ap (λ (x : List ℕ). entry_lines here ++ x) (no_ending g.phase e) ∙ append-nil (entry_lines here)) h
         ∙ sym (append_assoc (entry_lines here) (entry_lines (all_handed_out g (rooms k))) _)
-        ∙ ap₂ (λ (x : List ℕ) (p : Piece). x ++ cond (is_over (forecast_after k p.forecast)) (ending_line (ending (flown_through g (rooms k)))) []) (sym (lines_more here (all_handed_out g (rooms k)))) (sym q)
+        ∙ ap₂ (λ (x : List ℕ) (p : Piece). x ++ cond (is_over (forecast_after k p.forecast)) (ending_line (ending_of (flown_through g (rooms k)))) []) (sym (lines_more here (all_handed_out g (rooms k)))) (sym q)
     go false e h =
         let q = flying_piece f false e in
         let s = still_through k g e in
         let o = over_still k in
         ap (λ (p : Piece). p.bytes ++ printed_after k p.forecast) q
-        ∙ ap (λ (x : List ℕ). (entry_lines here ++ ending_line (ending g)) ++ x) o.1
-        ∙ append-nil (entry_lines here ++ ending_line (ending g))
+        ∙ ap (λ (x : List ℕ). (entry_lines here ++ ending_line (ending_of g)) ++ x) o.1
+        ∙ append-nil (entry_lines here ++ ending_line (ending_of g))
         ∙ sym
-        (ap₂ (λ (p : Piece) (x : Flight). entry_lines (here ++ all_handed_out g (rooms k)) ++ cond (is_over (forecast_after k p.forecast)) (ending_line (ending x)) []) q s.0
-        ∙ ap₂ (λ (x : Forecast) (es : List Entry). entry_lines (here ++ es) ++ cond (is_over x) (ending_line (ending g)) []) o.0 s.1
-        ∙ ap (λ (es : List Entry). entry_lines es ++ ending_line (ending g)) (append-nil here))
+        (ap₂ (λ (p : Piece) (x : Flight). entry_lines (here ++ all_handed_out g (rooms k)) ++ cond (is_over (forecast_after k p.forecast)) (ending_line (ending_of x)) []) q s.0
+        ∙ ap₂ (λ (x : Forecast) (es : List Entry). entry_lines (here ++ es) ++ cond (is_over x) (ending_line (ending_of g)) []) o.0 s.1
+        ∙ ap (λ (es : List Entry). entry_lines es ++ ending_line (ending_of g)) (append-nil here))
 
 fifty : (k : ℕ) → Fifty (rooms k)
 unfolding Fifty
@@ -148,10 +148,10 @@ module _ (s : Settings) (t0 tf : Float) (r0 v0 : Triple) where
   abbrev whole : List ℕ
   whole = story_lines (story_of s t0 tf r0 v0)
 
-  over_lands : (k : ℕ) → is_over (forecast_after k (Flying start)) ≡ true → asks (flown_through start (rooms k)) ≡ false
+  over_lands : (k : ℕ) → is_over (forecast_after k (Flying start)) ≡ true → is_asking (flown_through start (rooms k)) ≡ false
   unfolding forecast_after
   over_lands zero e = absurd (false≢true e)
-  over_lands (suc k) e = landed (asks (flown_through start (rooms (suc k)))) (sym (over_after k start) ∙ e)
+  over_lands (suc k) e = landed (is_asking (flown_through start (rooms (suc k)))) (sym (over_after k start) ∙ e)
     where
       landed : (d : Bool) → not d ≡ true → d ≡ false
       landed true h = absurd (false≢true h)
@@ -161,7 +161,7 @@ module _ (s : Settings) (t0 tf : Float) (r0 v0 : Triple) where
   unfolding story_lines
   read_all k e =
       printed_is k start
-      ∙ ap (λ (b : Bool). entry_lines (all_handed_out start (rooms k)) ++ cond b (ending_line (ending (flown_through start (rooms k)))) []) e
+      ∙ ap (λ (b : Bool). entry_lines (all_handed_out start (rooms k)) ++ cond b (ending_line (ending_of (flown_through start (rooms k)))) []) e
       ∙ ap story_lines ((tells_the_story s t0 tf r0 v0 (rooms k)).all (over_lands k e))
 
   going : (k : ℕ) → is_over (forecast_after k (Flying start)) ≡ false → (rest : List ℕ) × (printed_after k (Flying start) ++ rest ≡ whole)
@@ -172,7 +172,7 @@ module _ (s : Settings) (t0 tf : Float) (r0 v0 : Triple) where
       let more = t.left.samples in (
         story_lines t.left,
         ap (λ (x : List ℕ). x ++ story_lines t.left)
-            (printed_is k start ∙ ap (λ (b : Bool). entry_lines here ++ cond b (ending_line (ending (flown_through start (rooms k)))) []) e ∙ append-nil (entry_lines here))
+            (printed_is k start ∙ ap (λ (b : Bool). entry_lines here ++ cond b (ending_line (ending_of (flown_through start (rooms k)))) []) e ∙ append-nil (entry_lines here))
             ∙ sym (append_assoc (entry_lines here) (entry_lines more) (ending_line t.left.ending))
             ∙ ap (λ (x : List ℕ). x ++ ending_line t.left.ending) (sym (lines_more here more))
             ∙ ap story_lines t.so_far,

@@ -7,7 +7,7 @@ use Rattle.refusals.specs.declared.Refusal.TheVariants.{InputLine}
 use Rattle.lines.specs.Lines.{refusal_line}
 use Rattle.lines.specs.Nine.{read_nine}
 use Rattle.flight.specs.declared.Flight.{Flight}
-use Rattle.flight.specs.Flight.{asks, ending, Flown, taken_off, flown_on}
+use Rattle.flight.specs.Flight.{is_asking, ending_of, Flown, taken_off, flown_on}
 use Rattle.flight.specs.Told.{handed_out}
 use Rattle.forecaster.specs.declared.Forecast.{Forecast}
 use Rattle.forecaster.specs.declared.Forecast.TheVariants.{Unread, Flying, Over}
@@ -43,11 +43,11 @@ abbrev pub blank_room : List Float
 blank_room = replicate (10 * samples_apiece) nought
 
 -- what a flight tells after a piece: the samples handed out, and the ending if it is over
-unfoldable pub forecast_of : Flight → Forecast
-forecast_of f = cond (asks f) (Flying f) Over
+unfoldable pub carried_on : Flight → Forecast
+carried_on f = cond (is_asking f) (Flying f) Over
 
 unfoldable pub flown_piece : Flight → Flown → Piece
-flown_piece f g = record { forecast = forecast_of g.flight; bytes = entry_lines (handed_out f g) ++ ending_line (ending g.flight) }
+flown_piece f g = record { forecast = carried_on g.flight; bytes = entry_lines (handed_out f g) ++ ending_line (ending_of g.flight) }
 
 -- "a missing, extra or misshapen input line prints 19": that, and it is over
 unfoldable pub unread_piece : Piece

@@ -11,17 +11,17 @@ unfoldable pub count_of : List Float → ℕ
 count_of l = length l / sample_width
 
 -- the numbers at three places
-abbrev pub three : List Float → ℕ → ℕ → ℕ → Triple
-three l p q s = record { x = get_or l p nan; y = get_or l q nan; z = get_or l s nan }
+abbrev pub three_at : List Float → ℕ → ℕ → ℕ → Triple
+three_at l p q s = record { x = get_or l p nan; y = get_or l q nan; z = get_or l s nan }
 
 -- the ten numbers from place p on
 abbrev pub ten : List Float → ℕ → Sample
 ten l p =
     record {
       t = get_or l p nan;
-      r = three l (p + 1) (p + 2) (p + 3);
-      v = three l (p + 4) (p + 5) (p + 6);
-      a = three l (p + 7) (p + 8) (p + 9);
+      r = three_at l (p + 1) (p + 2) (p + 3);
+      v = three_at l (p + 4) (p + 5) (p + 6);
+      a = three_at l (p + 7) (p + 8) (p + 9);
     }
 
 abbrev pub nans : Triple

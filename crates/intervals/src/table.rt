@@ -3,7 +3,7 @@
 #![tactic(auto, unfolding(crate::specs::Table::count_of))]
 
 ghost use Rattle.std.specs.Prelude.{◌≡◌, ◌+◌, ◌<◌, length};
-ghost use Rattle.intervals.specs.Table.{count_of, time_of, three, no_sample, sample_of};
+ghost use Rattle.intervals.specs.Table.{count_of, time_of, three_at, no_sample, sample_of};
 
 use triple::{SAMPLE_WIDTH, Sample, Triple};
 
@@ -39,7 +39,7 @@ fn none() -> Sample
 // The three numbers from place p on.
 fn triple_at(samples: &[f64], p: usize) -> Triple
     requires { p + 2 < length samples.now }
-    ensures { result ≡ three samples.now p (p + 1) (p + 2) }
+    ensures { result ≡ three_at samples.now p (p + 1) (p + 2) }
 {
     Triple {
         x: samples[p],

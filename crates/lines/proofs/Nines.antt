@@ -11,7 +11,7 @@ use lib.ListN.{length, get_or, take, drop, set, replicate, length-append, length
 use lib.Seq.{drop-drop, get_or-drop, drop-append-le, take-append-le}
 use borrow.Author.Tests.{leb-true, le-leb, eq-eqb, ne_eqb}
 use Rattle.lines.specs.Put.{over}
-use Rattle.lines.specs.Read.{are_digits, number_of, sixteen_from}
+use Rattle.lines.specs.Read.{are_digits, number_read, sixteen_from}
 use Rattle.std.proofs.Common.{None, Some}
 use Rattle.lines.proofs.Values.{is_number, is_no_number}
 use Rattle.lines.specs.Nine.{begins_with_line, are_lines, patterns_of, ended, is_nine, read_nine}
@@ -94,17 +94,17 @@ module _ (text : List ℕ) (least : 152 ≤ length text) (most : length text ≤
     unfolding are_lines
     lines_are = let e : 9 - i ≡ suc (9 - (i + 1)) = omega arith in rw (e, line_is, rest_is) refl
 
-    pub no_digits : number_of (sixteen_from (17 * i) text) ≡ None → are_lines (9 - i) (drop (17 * i) (ended text)) ≡ false
+    pub no_digits : number_read (sixteen_from (17 * i) text) ≡ None → are_lines (9 - i) (drop (17 * i) (ended text)) ≡ false
     no_digits e = lines_are ∙ rw (is_no_number _ e) refl
 
     pub no_end : eqb (get_or text (17 * i + 16) 10) 10 ≡ false → are_lines (9 - i) (drop (17 * i) (ended text)) ≡ false
     no_end d = lines_are ∙ rw (d, and-false) refl
 
-    pub next_lines : (v : ℕ) → number_of (sixteen_from (17 * i) text) ≡ Some v → eqb (get_or text (17 * i + 16) 10) 10 ≡ true
+    pub next_lines : (v : ℕ) → number_read (sixteen_from (17 * i) text) ≡ Some v → eqb (get_or text (17 * i + 16) 10) 10 ≡ true
         → are_lines (9 - i) (drop (17 * i) (ended text)) ≡ are_lines (9 - (i + 1)) (drop (17 * (i + 1)) (ended text))
     next_lines v e d = lines_are ∙ rw ((is_number _ v e).0, d) refl
 
-    pub next_number : (v : ℕ) → number_of (sixteen_from (17 * i) text) ≡ Some v → (l : List ℕ)
+    pub next_number : (v : ℕ) → number_read (sixteen_from (17 * i) text) ≡ Some v → (l : List ℕ)
         → over (i + 1) (patterns_of (9 - (i + 1)) (drop (17 * (i + 1)) (ended text))) (set l i v)
         ≡ over i (patterns_of (9 - i) (drop (17 * i) (ended text))) l
     unfolding over patterns_of

@@ -15,7 +15,7 @@ use Rattle.std.specs.List.{slice_range}
 use Rattle.std.proofs.lemmas.Bool.Decides.{nat_tests}
 use Rattle.std.specs.Option.{SomeIff, unwrap_or}
 use Rattle.std.specs.Char.{digit_value}
-use Rattle.lines.specs.Read.{within, digit_of, are_digits, value_from, value_of, number_of, sixteen_from, is_hex_at, read_hex}
+use Rattle.lines.specs.Read.{within, digit_of, are_digits, value_from, value_of, number_read, sixteen_from, is_hex_at, read_hex}
 
 -- ---- one byte
 module _ (least most b : ℕ) where
@@ -58,25 +58,25 @@ pub small : (v i : ℕ) → v < 16 ^ i → i < 16 → v < 2 ^ 60
 small v i h b = let g : 16 ^ i ≤ 16 ^ 15 = pow-le-pow_right (omega arith) {i = i} {j = 15} (omega arith) in lt_of_lt_of_le h g
 
 -- ---- all of them
-pub no_number : (bytes : List ℕ) → are_digits bytes ≡ false → number_of bytes ≡ None
-unfolding number_of
+pub no_number : (bytes : List ℕ) → are_digits bytes ≡ false → number_read bytes ≡ None
+unfolding number_read
 no_number bytes e = rw e
 
 pub whole_number : (bytes : List ℕ) (i v : ℕ) → length bytes ≤ i
-    → are_digits bytes ≡ are_digits (drop i bytes) → value_from v (drop i bytes) ≡ value_of bytes → number_of bytes ≡ Some v
-unfolding number_of are_digits value_from
+    → are_digits bytes ≡ are_digits (drop i bytes) → value_from v (drop i bytes) ≡ value_of bytes → number_read bytes ≡ Some v
+unfolding number_read are_digits value_from
 whole_number bytes i v h e w = let z = drop_all i bytes h in rw (e, ← w, z) refl
 
-pub is_no_number : (bytes : List ℕ) → number_of bytes ≡ None → are_digits bytes ≡ false
-unfolding number_of
+pub is_no_number : (bytes : List ℕ) → number_read bytes ≡ None → are_digits bytes ≡ false
+unfolding number_read
 is_no_number bytes = go (are_digits bytes)
   where
     go : (b : Bool) → cond b (Some (value_of bytes)) None ≡ None → b ≡ false
     go true e = cc
     go false e = refl
 
-pub is_number : (bytes : List ℕ) (v : ℕ) → number_of bytes ≡ Some v → (are_digits bytes ≡ true) × (value_of bytes ≡ v)
-unfolding number_of
+pub is_number : (bytes : List ℕ) (v : ℕ) → number_read bytes ≡ Some v → (are_digits bytes ≡ true) × (value_of bytes ≡ v)
+unfolding number_read
 is_number bytes v = go (are_digits bytes)
   where
     go : (b : Bool) → cond b (Some (value_of bytes)) None ≡ Some v → (b ≡ true) × (value_of bytes ≡ v)
@@ -88,8 +88,8 @@ pub sixteen_is : (text : List ℕ) (at : ℕ) → take (at + 16 - at) (drop at t
 unfolding sixteen_from
 sixteen_is text at = let e : at + 16 - at ≡ 16 = omega arith in rw e refl
 
-pub hex_there : (text : List ℕ) (at : ℕ) → at + 16 ≤ length text → read_hex text at ≡ number_of (sixteen_from at text)
-unfolding read_hex is_hex_at number_of
+pub hex_there : (text : List ℕ) (at : ℕ) → at + 16 ≤ length text → read_hex text at ≡ number_read (sixteen_from at text)
+unfolding read_hex is_hex_at number_read
 hex_there text at h = rw (le-leb _ _ h) refl
 
 pub no_hex : (text : List ℕ) (at : ℕ) → length text < at + 16 → read_hex text at ≡ None

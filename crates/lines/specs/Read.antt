@@ -22,8 +22,8 @@ unfoldable pub value_of : List ℕ → ℕ
 value_of bytes = value_from 0 bytes
 
 -- the number, where all of them are digits
-unfoldable pub number_of : List ℕ → Option ℕ
-number_of bytes = cond (are_digits bytes) (Some (value_of bytes)) None
+unfoldable pub number_read : List ℕ → Option ℕ
+number_read bytes = cond (are_digits bytes) (Some (value_of bytes)) None
 
 -- ---- the sixteen bytes from place `at` on
 unfoldable pub sixteen_from : ℕ → List ℕ → List ℕ

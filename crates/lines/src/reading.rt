@@ -1,13 +1,13 @@
 // SPDX-License-Identifier: MIT OR Apache-2.0
 // Hex digits read, one after another, line after line.
 ghost use Rattle.std.specs.Prelude.{◌≡◌, ◌≤◌, eqb, length, get_or};
-ghost use Rattle.lines.specs.Read.{number_of};
+ghost use Rattle.lines.specs.Read.{number_read};
 ghost use Rattle.lines.specs.Nine.{read_nine};
 
 // The number of sixteen bytes, small digits or capital.
 pub fn sixteen(digits: &[u8]) -> Option<u64>
     requires { length digits.now ≡ 16 }
-    ensures { result ≡ number_of digits.now }
+    ensures { result ≡ number_read digits.now }
 {
     let mut value = 0u64;
     for b in digits {

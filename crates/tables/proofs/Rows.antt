@@ -8,7 +8,7 @@ use lib.Dec.{T, leb, leb→le, ltb, ltb→lt, nltb→le}
 use lib.ListN.{length, get_or, get_or-eq_default}
 use lib.Ieee.{Float}
 use Rattle.double.specs.Doubles.{nought}
-use Rattle.tables.specs.Tables.{nine, ten}
+use Rattle.tables.specs.Tables.{nine, ten_rows}
 use Rattle.tables.proofs.Before.{a_bits, b_bits, entry}
 use Rattle.tables.proofs.Every.{one}
 
@@ -26,7 +26,7 @@ nine_at f h (suc (suc (suc (suc (suc (suc (suc (suc zero)))))))) = refl
 nine_at f h (suc (suc (suc (suc (suc (suc (suc (suc (suc k))))))))) = sym (h (suc (suc (suc (suc (suc (suc (suc (suc (suc k))))))))) (omega arith))
 
 -- a row of ten
-pub ten_at : (at : ℕ → ℕ → Float) → ((i k : ℕ) → 10 ≤ i → at i k ≡ nought) → (i : ℕ) → get_or (ten at) i (nine (λ k. nought)) ≡ nine (at i)
+pub ten_at : (at : ℕ → ℕ → Float) → ((i k : ℕ) → 10 ≤ i → at i k ≡ nought) → (i : ℕ) → get_or (ten_rows at) i (nine (λ k. nought)) ≡ nine (at i)
 ten_at f h zero = refl
 ten_at f h (suc zero) = refl
 ten_at f h (suc (suc zero)) = refl

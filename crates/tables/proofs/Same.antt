@@ -11,7 +11,7 @@ use Rattle.double.specs.Doubles.{Double, nought}
 use Rattle.double.specs.Fraction.{Fraction}
 use Rattle.double.specs.Nearest.{is_negative, nearest_double}
 use Rattle.double.proofs.Patterns.{read_back}
-use Rattle.tables.specs.Tables.{a_decimal, b_decimal, coefficient_at, a_at, b_at, ten}
+use Rattle.tables.specs.Tables.{a_decimal, b_decimal, coefficient_at, a_at, b_at, ten_rows}
 use Rattle.tables.proofs.Before.{a_bits, b_bits, entry}
 use Rattle.tables.proofs.Every.{every, two}
 use Rattle.tables.proofs.Rows.{Shape, shape_of_a, shape_of_b, below, beside}
@@ -61,8 +61,8 @@ pub b_was : (i k : ℕ) → of_bits binary64 (entry b_bits i k) ≡ b_at i k
 b_was i k = read_back (b_at i k) (entry b_bits i k) (b_double i k) (b_same_bits i k)
 
 -- and the ten rows are what their patterns stand for
-pub a_rows_were : ten (λ i k. of_bits binary64 (entry a_bits i k)) ≡ ten a_at
-a_rows_were = ap ten (fun_ext (λ i. fun_ext (λ k. a_was i k)))
+pub a_rows_were : ten_rows (λ i k. of_bits binary64 (entry a_bits i k)) ≡ ten_rows a_at
+a_rows_were = ap ten_rows (fun_ext (λ i. fun_ext (λ k. a_was i k)))
 
-pub b_rows_were : ten (λ i k. of_bits binary64 (entry b_bits i k)) ≡ ten b_at
-b_rows_were = ap ten (fun_ext (λ i. fun_ext (λ k. b_was i k)))
+pub b_rows_were : ten_rows (λ i k. of_bits binary64 (entry b_bits i k)) ≡ ten_rows b_at
+b_rows_were = ap ten_rows (fun_ext (λ i. fun_ext (λ k. b_was i k)))

@@ -47,6 +47,6 @@ abbrev pub b_row : ℕ → List Float
 b_row i = row_of b_at i
 
 -- the ten rows, which are stored
-abbrev pub ten : (ℕ → ℕ → Float) → List (List Float)
-ten at =
+abbrev pub ten_rows : (ℕ → ℕ → Float) → List (List Float)
+ten_rows at =
     nine (at 0) ∷ nine (at 1) ∷ nine (at 2) ∷ nine (at 3) ∷ nine (at 4) ∷ nine (at 5) ∷ nine (at 6) ∷ nine (at 7) ∷ nine (at 8) ∷ nine (at 9) ∷ []

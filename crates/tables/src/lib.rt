@@ -4,7 +4,7 @@
 #![tactic(auto)]
 
 ghost use Rattle.std.specs.Prelude.{◌≡◌, ℕ, Float};
-ghost use Rattle.tables.specs.Tables.{a_at, b_at, ten, row_of};
+ghost use Rattle.tables.specs.Tables.{a_at, b_at, ten_rows, row_of};
 ghost use Rattle.tables.specs.Outside.{IsNoughtOutside, a_outside, b_outside};
 
 mod a_rows;
@@ -43,7 +43,7 @@ pub trait Table {
     ghost at: { ℕ → ℕ → Float };
 
     fn rows() -> &'static [[f64; 9]; 10]
-        ensures { result.now ≡ ten at };
+        ensures { result.now ≡ ten_rows at };
 
     ghost is_nought_outside: { IsNoughtOutside at };
 }

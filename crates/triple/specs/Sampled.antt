@@ -9,8 +9,8 @@ abbrev pub sample_width : ℕ
 sample_width = 10
 
 -- a state at a time, and a point with the acceleration there
-abbrev pub state_at : State → (t : Float) → Point
-state_at x t = record { t = t; r = x.r; v = x.v }
+abbrev pub at_time : State → (t : Float) → Point
+at_time x t = record { t = t; r = x.r; v = x.v }
 
 abbrev pub with_acceleration : Point → Triple → Sample
 with_acceleration p a = record { t = p.t; r = p.r; v = p.v; a = a }

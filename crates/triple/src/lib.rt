@@ -7,7 +7,7 @@ ghost use Rattle.std.specs.Prelude.{◌≡◌};
 ghost use Rattle.triple.specs.Arithmetic.{thrice, zeros, plus, minus, times, over};
 ghost use Rattle.triple.specs.Size.{absolute, larger_of, mean_square, size_of};
 ghost use Rattle.triple.specs.Finite.{is_finite};
-ghost use Rattle.triple.specs.Sampled.{state_at, with_acceleration};
+ghost use Rattle.triple.specs.Sampled.{at_time, with_acceleration};
 
 pub mod nine;
 
@@ -122,7 +122,7 @@ impl Triple {
 
 impl State {
     pub fn at(self, t: f64) -> Point
-        ensures { result ≡ state_at self t }
+        ensures { result ≡ at_time self t }
     {
         Point {
             t,

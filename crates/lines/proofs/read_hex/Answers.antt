@@ -1,7 +1,7 @@
 -- `read_hex` is `read_hex`.
 use Rattle.std.proofs.Common.{sym, ◌∙◌, ap, ℕ, List, ◌+◌, ◌≤◌, length, arith}
 use Rattle.std.specs.List.{slice_range}
-use Rattle.lines.specs.Read.{number_of}
+use Rattle.lines.specs.Read.{number_read}
 use Rattle.lines.proofs.Values.{no_hex, hex_there, sixteen_first}
 use Rattle.lines.proofs.read_hex.Goals as goal
 
@@ -23,5 +23,5 @@ returns c =
     let h : at + 16 ≤ length text = omega (arith, c.in_ok-get-2.ensures.lookup.0, c.in_ok-get.ensures.lookup.0) in
     let first = ap (λ (l : List ℕ). slice_range l 0 16) c.in_ok-get.ensures.lookup.0.2 in
     c.sixteen.ensures
-    ∙ ap number_of (c.in_ok-get-2.ensures.lookup.0.2 ∙ first ∙ sixteen_first text at h)
+    ∙ ap number_read (c.in_ok-get-2.ensures.lookup.0.2 ∙ first ∙ sixteen_first text at h)
     ∙ sym (hex_there text at h)

@@ -1,4 +1,4 @@
--- `sixteen` is `number_of`, digit after digit.
+-- `sixteen` is `number_read`, digit after digit.
 use Rattle.std.proofs.Common.{◌≡◌, refl, sym, ◌∙◌, None, Some, ◌<◌, length, arith}
 use Rattle.std.proofs.Math.ListN.{get_or}
 use Rattle.lines.specs.Read.{digit_of, value_of}

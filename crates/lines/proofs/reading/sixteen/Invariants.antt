@@ -1,4 +1,4 @@
--- `sixteen` is `number_of`, digit after digit.
+-- `sixteen` is `number_read`, digit after digit.
 use Rattle.std.proofs.Common.{◌≡◌, ◌^◌, ◌<◌, drop}
 use Rattle.lines.specs.Read.{are_digits, value_from, value_of}
 use Rattle.lines.proofs.reading.sixteen.Given as goal
