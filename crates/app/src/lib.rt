@@ -145,7 +145,7 @@ pub extern "C" fn gj_answer(
         Look::On { mark, state, steps } => {
             lending::step_on(run, mark, state, steps, a, from, out)
         },
-        Look::Away => lending::answer_plainly(run, number, a, from, out),
+        Look::Away { .. } => lending::answer_plainly(run, number, a, from, out),
     }
 }
 

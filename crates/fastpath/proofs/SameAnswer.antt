@@ -21,7 +21,7 @@ use Rattle.run.proofs.OpenStep.{open_at_step, open_sound}
 use Rattle.gauss_jackson.specs.Answers.{next_count, asking, question_of, step_taken, answered_at, answered}
 use Rattle.fastpath.specs.declared.Look.{Look}
 use Rattle.fastpath.specs.declared.Look.TheVariants.{Away, Again, On}
-use Rattle.fastpath.specs.Looking.{reached, is_made, is_followed, looked_again, looked_on, looked_at}
+use Rattle.fastpath.specs.Looking.{reached, is_made, is_followed, looked_away, looked_again, looked_on, looked_at}
 use Rattle.fastpath.specs.Moving.{asked_at, asked_again, track_by, stored_by, made_step, kept_step, tried_given, stepped_given}
 use Rattle.fastpath.proofs.Taken.{taken_again, taken_on, ended_on}
 
@@ -55,12 +55,17 @@ module _ (run : Run) (number : ℕ) (a : Triple) (from : ℕ) (l : List Float) w
 
   -- what each look promises
   abbrev Same : Look → Type 0
-  Same Away = Unit {0}
+  Same (Away m y n) = Unit {0}
   Same (Again m y) = answered run number a out ≡ tried_given run (asked_again m y p k run.body.trial) out
   Same (On m y n) = answered run number a out ≡ stepped_given run (made_step m y n p k run.body.a a) (tens from (kept_step y n p k run.body.a a from l))
 
   abbrev look : Bool → Bool → Bool → Look
-  look o d f = cond o (cond d (cond f (On (mark_at (Step 0) c) end (k.steps + 1)) Away) (Again (mark_at (Step (run.mark.index + 1)) c) end)) Away
+  look o d f =
+      cond o
+      (cond d
+      (cond f (On (mark_at (Step 0) c) end (k.steps + 1)) (Away (mark_at (Step 0) c) end (k.steps + 1)))
+      (Again (mark_at (Step (run.mark.index + 1)) c) end))
+      (Away run.mark run.body.trial.state k.steps)
 
   to_step : is_open && is_asked ≡ true → answered run number a out ≡ step_taken run.mark.index c run.body a out
   unfolding answered answered_at
@@ -74,7 +79,7 @@ module _ (run : Run) (number : ℕ) (a : Triple) (from : ℕ) (l : List Float) w
   same_by false d f u v w = tt
 
   same : Same (looked_at run.mark p k run.body.trial run.body.startup_iters number a from (length l))
-  unfolding looked_at looked_on looked_again
+  unfolding looked_at looked_on looked_again looked_away
   same = same_by (is_open && is_asked) made followed refl refl refl
 
   pub same_again : (m : Mark) (y : State) → Again m y ≡ looked_at run.mark p k run.body.trial run.body.startup_iters number a from (length l)

@@ -45,15 +45,20 @@ is_followed p t n from room = has_place (wants_samples p.settings) from n 1 room
 unfoldable pub looked_again : (n : ℕ) → Count → State → Look
 looked_again n c y = Again (mark_at (Step (n + 1)) c) y
 
--- the open step is made at y, and the next one is open, if one follows
+-- the open step is made at y, and the next one is open, if one follows; else the answer goes the plain way
 unfoldable pub looked_on : Plan → Count → Track → State → (from room : ℕ) → Look
 looked_on p c k y from room =
-    cond (is_followed p (add binary64 k.t p.h) (k.steps + 1) from room) (On (mark_at (Step 0) c) y (k.steps + 1)) Away
+    cond (is_followed p (add binary64 k.t p.h) (k.steps + 1) from room)
+    (On (mark_at (Step 0) c) y (k.steps + 1))
+    (Away (mark_at (Step 0) c) y (k.steps + 1))
 
--- neither: the answer goes the plain way
+-- neither: the answer goes the plain way, and what stands, stands
+unfoldable pub looked_away : Mark → Track → Trial → Look
+looked_away m k t = Away m t.state k.steps
+
 unfoldable pub looked_at : Mark → Plan → Track → Trial → (S number : ℕ) → Triple → (from room : ℕ) → Look
 looked_at m p k t S number a from room =
     let y = reached m.index p k.sums t a in
     cond (is_open_step m p S k.steps && m.count.number == number)
     (cond (is_made m.index p k.sums t a) (looked_on p (next_count m.count) k y from room) (looked_again m.index (next_count m.count) y))
-    Away
+    (looked_away m k t)

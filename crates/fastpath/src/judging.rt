@@ -2,12 +2,12 @@
 // What an answer at a step's end leads to: where the step ends by it, whether it is made there, and whether a further one follows.
 ghost use Rattle.std.specs.Prelude.{◌≡◌, ◌<◌};
 ghost use Rattle.run.specs.Limits.{ample};
-ghost use Rattle.fastpath.specs.Looking.{reach, is_followed, looked_again, looked_on};
+ghost use Rattle.fastpath.specs.Looking.{reach, is_followed, looked_away, looked_again, looked_on};
 
 use crate::Look;
 use plan::{Plan, limits};
 use run::waiting::Waiting;
-use run::{Count, Track, Trial, samples, waiting};
+use run::{Count, Mark, Track, Trial, samples, waiting};
 use sums::Sums;
 use triple::{State, Triple};
 
@@ -44,6 +44,18 @@ fn is_followed(plan: Plan, t: f64, n: u64, from: u64, room: usize) -> bool
         && !conditions::is_tail(plan, t)
 }
 
+// Neither, since no step is open or another question was answered: what stands, stands.
+#[tactic(auto, unfolding(crate::specs::Looking::looked_away))]
+pub fn look_away(mark: Mark, track: Track, trial: Trial) -> Look
+    ensures { result ≡ looked_away mark track trial }
+{
+    Look::Away {
+        mark,
+        state: trial.state,
+        steps: track.steps,
+    }
+}
+
 // The open step is tried once more, after n passes.
 #[tactic(auto, unfolding(crate::specs::Looking::looked_again))]
 pub fn look_again(n: u8, count: Count, state: State) -> Look
@@ -56,19 +68,16 @@ pub fn look_again(n: u8, count: Count, state: State) -> Look
     }
 }
 
-// The open step is made, and the next one is open, if one follows. The counts have room, as in gauss_jackson's `advance`.
+// The open step is made, and the next one is open, if one follows; else the answer goes the plain way, and is told all the same. The counts have room, as in gauss_jackson's `advance`.
 #[tactic(auto, unfolding(crate::specs::Looking::looked_on))]
 pub fn look_on(plan: Plan, count: Count, track: Track, state: State, from: u64, room: usize) -> Look
     requires { track.steps < ample }
     ensures { result ≡ looked_on plan count track state from room }
 {
     let steps = track.steps + 1;
+    let mark = waiting::mark_at(Waiting::Step(0), count);
     if !is_followed(plan, track.t + plan.h, steps, from, room) {
-        return Look::Away;
+        return Look::Away { mark, state, steps };
     }
-    Look::On {
-        mark: waiting::mark_at(Waiting::Step(0), count),
-        state,
-        steps,
-    }
+    Look::On { mark, state, steps }
 }

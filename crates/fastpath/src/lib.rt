@@ -19,10 +19,15 @@ mod judging;
 use judging::Reached;
 
 // What an answer leads to: the open step is tried once more, or it is made and the next one is open, or neither, and the answer goes the
-// plain way. `mark` is where the run waits then, `state` where the step ends by this answer, `steps` the steps made.
+// plain way. `mark` is where the run waits then, `state` where the step ends by this answer, `steps` the steps made; of an answer at no open
+// step, or under another number, they are what stood before.
 #[derive(Clone, Copy)]
 pub enum Look {
-    Away,
+    Away {
+        mark: Mark,
+        state: State,
+        steps: u64,
+    },
     Again {
         mark: Mark,
         state: State,
@@ -68,10 +73,10 @@ pub fn look_at(
     ensures { result ≡ looked_at mark plan track trial passes number a from room }
 {
     if !sound::is_open_step(mark, plan, passes, track.steps) {
-        return Look::Away;
+        return judging::look_away(mark, track, trial);
     }
     if mark.count.number != number {
-        return Look::Away;
+        return judging::look_away(mark, track, trial);
     }
     let n = mark.index;
     let count = mark.count.next();

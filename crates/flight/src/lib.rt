@@ -128,7 +128,7 @@ pub fn fly_on(flight: Flight, out: &mut [f64]) -> Flight
                 parts = parts::step_on(parts, mark, state, steps, body.plan, a, from, out);
                 continue;
             },
-            Look::Away => {
+            Look::Away { .. } => {
                 f = answer_plainly(parts::together(f, parts), parts.question, a, from, out);
                 let Phase::Asks(question) = f.phase else {
                     return f;

@@ -17,11 +17,11 @@ open_is false x y e = (refl, cc)
 
 pub returns-then-not-is_open_step : goal.returns-then-not-is_open_step
 unfolding looked_at
-returns-then-not-is_open_step c = rw (sym c.is_open_step.ensures ∙ c.if-not-is_open_step.true)
+returns-then-not-is_open_step c = rw (sym c.is_open_step.ensures ∙ c.if-not-is_open_step.true) c.look_away.ensures
 
 pub returns-then-mark-number : goal.returns-then-mark-number
 unfolding looked_at
-returns-then-mark-number c = rw (sym c.is_open_step.ensures ∙ c.if-not-is_open_step.false, ne_eqb _ _ c.if-mark-number.true)
+returns-then-mark-number c = rw (sym c.is_open_step.ensures ∙ c.if-not-is_open_step.false, ne_eqb _ _ c.if-mark-number.true) c.look_away-then-mark-number.ensures
 
 pub look_on-requires : goal.look_on-requires
 look_on-requires c = omega (arith, (open_few _ _ _ _ (sym c.is_open_step.ensures ∙ c.if-not-is_open_step.false)).steps)
