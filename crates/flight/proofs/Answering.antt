@@ -25,7 +25,7 @@ use Rattle.rules.proofs.Calls.{call_is}
 use Rattle.counting.specs.Paths.{Claims}
 use Rattle.counting.specs.Rooms.{Holds}
 use Rattle.counting.proofs.Ahead.{reached, samples_ahead, count_ahead, from_there, stop_at, due_holds, settles}
-use Rattle.point_mass.specs.Force.{distance, is_too_low, pull, pull_at}
+use Rattle.point_mass.specs.Force.{distance, is_too_low, pull, pull_at, answer_at}
 use Rattle.flight.specs.declared.Flight.{Flight}
 use Rattle.flight.specs.Flight.{flight_of, flown_after, landed_low, answered_by, answered_once}
 use Rattle.flight.specs.Story.{Story, numbered, nothing_more, story}
@@ -87,7 +87,7 @@ module _ (p : Plan) (c : Claims) (m from : ℕ) (f : Flight) (numbers : List Flo
   next_is = ap (λ (n : ℕ). f.next + n) stored_is
 
   low_goes : is_too_low (distance o.asked.r) ≡ true → Goes p c (m + 1) from f numbers st (answered_once from f numbers)
-  unfolding landed_low put_all numbered pull_at
+  unfolding landed_low put_all numbered pull_at answer_at
   low_goes h =
       let e = enough in
       subst (Goes p c (m + 1) from f numbers st) (sym (once_low from f numbers o.asked o.phase (rw h)))
@@ -102,7 +102,7 @@ module _ (p : Plan) (c : Claims) (m from : ℕ) (f : Flight) (numbers : List Flo
       })
 
   high_goes : is_too_low (distance o.asked.r) ≡ false → Goes p c (m + 1) from f numbers st (answered_once from f numbers)
-  unfolding answered_by flown_after flight_of seen pull_at
+  unfolding answered_by flown_after flight_of seen pull_at answer_at
   high_goes h =
       let e = enough in
       let b = (placed_is from f.next 5 (length numbers) place).0 in

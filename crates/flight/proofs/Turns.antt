@@ -18,7 +18,7 @@ use Rattle.fastpath.specs.declared.Look.TheVariants.{Again, On}
 use Rattle.fastpath.specs.Looking.{looked_at}
 use Rattle.fastpath.specs.Moving.{asked_again, made_step, kept_step}
 use Rattle.fastpath.proofs.SameAnswer.{same_again, same_on}
-use Rattle.point_mass.specs.Force.{pull_at}
+use Rattle.point_mass.specs.Force.{answer_at}
 use Rattle.flight.specs.declared.Phase.{Phase}
 use Rattle.flight.specs.declared.Phase.TheVariants.{Asks}
 use Rattle.flight.specs.declared.Flight.{Flight}
@@ -43,11 +43,11 @@ module _ (from left next : ℕ) (f : Flight) (h : Parts) (numbers : List Float) 
   unfolding together
   turned = flown_more from (together f h) numbers left next one ready
 
-  pub turned_low : pull_at h.question.r ≡ None → flown_by left from (together f h) numbers ≡ record { flight = landed_low (together f h); out = numbers }
+  pub turned_low : answer_at h.question.r ≡ None → flown_by left from (together f h) numbers ≡ record { flight = landed_low (together f h); out = numbers }
   unfolding together landed_low
   turned_low e = to _ turned _ (once_low from (together f h) numbers h.question refl e) ∙ flown_over from (landed_low (together f h)) numbers next _ refl
 
-  module _ (a : Triple) (high : pull_at h.question.r ≡ Some a) where
+  module _ (a : Triple) (high : answer_at h.question.r ≡ Some a) where
     pub turned_plainly : Turned (answered_by h.question a from (together f h) numbers).flight (answered_by h.question a from (together f h) numbers).out
     unfolding together
     turned_plainly = to _ turned _ (once_high from (together f h) numbers h.question refl a high)

@@ -12,7 +12,7 @@ use Rattle.gauss_jackson.specs.declared.Outcome.{Outcome}
 use Rattle.gauss_jackson.specs.declared.Outcome.TheVariants.{Ask, Done, Refused}
 use Rattle.gauss_jackson.specs.declared.Answered.{Answered}
 use Rattle.gauss_jackson.specs.Answers.{Given, started, answered}
-use Rattle.point_mass.specs.Force.{pull_at}
+use Rattle.point_mass.specs.Force.{answer_at}
 use Rattle.flight.specs.declared.Phase.{Phase}
 use Rattle.flight.specs.declared.Phase.TheVariants.{Asks, Over}
 use Rattle.flight.specs.declared.Flight.{Flight}
@@ -65,7 +65,7 @@ pulled_by q (Some a) from f numbers = answered_by q a from f numbers
 
 -- where none is open, none is answered
 unfoldable pub answered_in : Phase → (from : ℕ) → Flight → List Float → Flown
-answered_in (Asks q) from f numbers = pulled_by q (pull_at q.r) from f numbers
+answered_in (Asks q) from f numbers = pulled_by q (answer_at q.r) from f numbers
 answered_in (Over e) from f numbers = record { flight = f; out = numbers }
 
 unfoldable pub answered_once : (from : ℕ) → Flight → List Float → Flown

@@ -114,7 +114,7 @@ pub fn fly_on(flight: Flight, out: &mut [f64]) -> Flight
         if !is_ready(from, parts.next, out.len()) {
             break;
         }
-        let Some(a) = force::pull_at(parts.question.r) else {
+        let Some(a) = force::answer_at(parts.question.r) else {
             return land_low(parts::together(f, parts));
         };
         let body = &f.run.body;

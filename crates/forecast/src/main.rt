@@ -35,7 +35,7 @@ fn print_piece(out: &mut Stdout, now: Forecast, bytes: &mut [u8]) -> io::Result<
     let printed = forecaster::print_on(now, bytes);
     let n = printed.count;
     if n > bytes.len() {
-        return Ok(Forecast::Over);
+        return Ok(Forecast::Over(None));
     }
     out.write_all(&bytes[..n])?;
     Ok(printed.forecast)

@@ -14,7 +14,7 @@ use Rattle.run.specs.Samples.{Room, tens, numbers_of}
 use Rattle.run.proofs.Placing.{placed_is, length_put}
 use Rattle.gauss_jackson.specs.declared.Question.{Question}
 use Rattle.gauss_jackson.proofs.Stores.{stored_is_written}
-use Rattle.point_mass.specs.Force.{pull_at}
+use Rattle.point_mass.specs.Force.{answer_at}
 use Rattle.flight.specs.declared.Flight.{Flight}
 use Rattle.flight.specs.declared.Phase.{Phase}
 use Rattle.flight.specs.declared.Phase.TheVariants.{Asks, Over}
@@ -42,7 +42,7 @@ once_pulled q (Some a) from f numbers =
 
 once_in : (h : Phase) (from : ℕ) (f : Flight) (numbers : List Float) → Once f numbers (answered_in h from f numbers)
 unfolding answered_in
-once_in (Asks q) from f numbers = once_pulled q (pull_at q.r) from f numbers
+once_in (Asks q) from f numbers = once_pulled q (answer_at q.r) from f numbers
 once_in (Over e) from f numbers = record { forth = omega arith; few = omega arith; same = refl }
 
 once : (from : ℕ) (f : Flight) (numbers : List Float) → Once f numbers (answered_once from f numbers)

@@ -65,13 +65,13 @@ still_through (suc k) f e =
 
 -- ---- one that flies goes on as its flight does
 abbrev after : (d : Bool) → Flight → Flown → Piece
-after d f g = record { forecast = cond d (Flying g.flight) Over; bytes = entry_lines (handed_out f g) ++ ending_line (ending_of g.flight) }
+after d f g = record { forecast = cond d (Flying g.flight) (Over (Some g.flight)); bytes = entry_lines (handed_out f g) ++ ending_line (ending_of g.flight) }
 
 flying_piece : (f : Flight) (d : Bool) → is_asking (flown_on f blank_room).flight ≡ d → piece_of (Flying f) ≡ after d f (flown_on f blank_room)
 unfolding piece_of flown_piece carried_on
 flying_piece f d e = ap (λ (b : Bool). after b f (flown_on f blank_room)) e
 
-over_by : (d : Bool) (f : Flight) → is_over (cond d (Flying f) Over) ≡ not d
+over_by : (d : Bool) (f : Flight) → is_over (cond d (Flying f) (Over (Some f))) ≡ not d
 over_by true f = refl
 over_by false f = refl
 
@@ -88,7 +88,7 @@ over_after (suc k) f = go (is_asking (flown_on f blank_room).flight) refl (over_
     go true e h = ap (λ (p : Piece). is_over (forecast_after (suc k) p.forecast)) (flying_piece f true e) ∙ h
     go false e h =
         ap (λ (p : Piece). is_over (forecast_after (suc k) p.forecast)) (flying_piece f false e)
-        ∙ ap is_over (over_still (suc k)).0
+        ∙ ap is_over (over_still (suc k) (Some g)).0
         ∙ sym (ap (λ (x : Flight). not (is_asking x)) (still_through (suc k) g e).0 ∙ ap not e)
 
 -- what was printed: the lines of what was handed out, and the ending once it is over
@@ -126,7 +126,7 @@ printed_is (suc k) f = go (is_asking (flown_on f blank_room).flight) refl (print
     go false e h =
         let q = flying_piece f false e in
         let s = still_through k g e in
-        let o = over_still k in
+        let o = over_still k (Some g) in
         ap (λ (p : Piece). p.bytes ++ printed_after k p.forecast) q
         ∙ ap (λ (x : List ℕ). (entry_lines here ++ ending_line (ending_of g)) ++ x) o.1
         ∙ append-nil (entry_lines here ++ ending_line (ending_of g))

@@ -16,7 +16,7 @@ use Rattle.forecaster.specs.Printed.{entry_lines, ending_line, float_at, triple_
 abbrev pub is_over : Forecast → Bool
 is_over Unread = false
 is_over (Flying f) = false
-is_over Over = true
+is_over (Over f) = true
 
 unfoldable pub begun_with : List ℕ → Forecast
 begun_with numbers =
@@ -42,21 +42,21 @@ samples_apiece = 64
 abbrev pub blank_room : List Float
 blank_room = replicate (10 * samples_apiece) nought
 
--- what a flight tells after a piece: the samples handed out, and the ending if it is over
+-- what a flight tells after a piece: the samples handed out, and the ending if it is over; the flight stays to be looked at
 unfoldable pub carried_on : Flight → Forecast
-carried_on f = cond (is_asking f) (Flying f) Over
+carried_on f = cond (is_asking f) (Flying f) (Over (Some f))
 
 unfoldable pub flown_piece : Flight → Flown → Piece
 flown_piece f g = record { forecast = carried_on g.flight; bytes = entry_lines (handed_out f g) ++ ending_line (ending_of g.flight) }
 
 -- "a missing, extra or misshapen input line prints 19": that, and it is over
 unfoldable pub unread_piece : Piece
-unread_piece = record { forecast = Over; bytes = refusal_line (number_of InputLine) }
+unread_piece = record { forecast = Over None; bytes = refusal_line (number_of InputLine) }
 
 unfoldable pub piece_of : Forecast → Piece
 piece_of Unread = unread_piece
 piece_of (Flying f) = flown_piece f (flown_on f blank_room)
-piece_of Over = record { forecast = Over; bytes = [] }
+piece_of (Over f) = record { forecast = Over f; bytes = [] }
 
 -- the room for the longest piece: a line takes 191 bytes at most, and a refusal's 21
 abbrev pub longest_piece : ℕ

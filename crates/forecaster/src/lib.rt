@@ -22,12 +22,13 @@ const ROOM: usize = 640;
 // The bytes of the longest piece: 64 lines of 191, and a refusal's.
 pub const LONGEST: usize = 12245;
 
-// A forecast on its way: of an input that can't be read, which is still to be told; of one whose flight goes on; or all of it is printed.
+// A forecast on its way: of an input that can't be read, which is still to be told; of one whose flight goes on; or all of it is printed, and
+// there is the flight as it ended, unless the input couldn't be read.
 #[derive(Clone, Copy)]
 pub enum Forecast {
     Unread,
     Flying(Flight),
-    Over,
+    Over(Option<Flight>),
 }
 
 impl Forecast {
@@ -35,7 +36,7 @@ impl Forecast {
     pub fn is_over(&self) -> bool
         ensures { result ≡ is_over self.now }
     {
-        matches!(self, Forecast::Over)
+        matches!(self, Forecast::Over(_))
     }
 }
 
@@ -94,7 +95,7 @@ fn print_unread(out: &mut [u8]) -> Printed
     let number = u64::from(u8::from(Refusal::InputLine));
     let count = lines::put_refusal(number, 0, out);
     Printed {
-        forecast: Forecast::Over,
+        forecast: Forecast::Over(None),
         count,
     }
 }
@@ -113,7 +114,7 @@ fn print_flown(before: Flight, out: &mut [u8]) -> Printed
     let count = rows::put_told(from, told, after.phase, &room, out);
     let forecast = match after.phase {
         Phase::Asks(_question) => Forecast::Flying(after),
-        Phase::Over(_ending) => Forecast::Over,
+        Phase::Over(_ending) => Forecast::Over(Some(after)),
     };
     Printed { forecast, count }
 }
@@ -130,6 +131,6 @@ pub fn print_on(forecast: Forecast, out: &mut [u8]) -> Printed
     match forecast {
         Forecast::Unread => print_unread(out),
         Forecast::Flying(flight) => print_flown(flight, out),
-        Forecast::Over => Printed { forecast, count: 0 },
+        Forecast::Over(_) => Printed { forecast, count: 0 },
     }
 }

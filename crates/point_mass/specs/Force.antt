@@ -9,6 +9,7 @@ use Rattle.double.specs.Nearest.{nearest_double}
 use Rattle.root.specs.Root.{root_of}
 use Rattle.triple.specs.declared.Triple.{Triple}
 use Rattle.triple.specs.Size.{square}
+use Rattle.point_mass.specs.declared.force.Pulled.{Pulled}
 
 -- 398600.4418
 abbrev pub mu_decimal : Fraction
@@ -37,6 +38,9 @@ lowest = fin false 1 (pos 0)
 unfoldable pub is_too_low : Float → Bool
 is_too_low d = not (le lowest d)
 
--- where that is not too low
-unfoldable pub pull_at : Triple → Option Triple
-pull_at r = cond (is_too_low (distance r)) None (Some (pull r))
+unfoldable pub pull_at : Triple → Pulled
+pull_at r = record { low = is_too_low (distance r); a = pull r }
+
+-- what answers a question there: none where that is too low
+unfoldable pub answer_at : Triple → Option Triple
+answer_at r = cond (pull_at r).low None (Some (pull_at r).a)

@@ -23,10 +23,10 @@ pub loop-init : goal.loop-init
 loop-init c = (refl, rw (c.parts_of-parts.ensures, whole c.args.flight c.in-Asks.first c.in-Asks.is))
 
 -- ---- too low
-pub returns-in_default-pull_at : goal.returns-in_default-pull_at
+pub returns-in_default-answer_at : goal.returns-in_default-answer_at
 unfolding flown_on
-returns-in_default-pull_at c =
-    let h = sym (turned_low _ _ _ c.loop.f c.loop.parts _ (one_less _ c.loop-test.true) (sym c.is_ready.ensures ∙ c.if-not-is_ready.false) (sym c.in_default-pull_at.ensures)) ∙ c.loop.invariant.1 in
+returns-in_default-answer_at c =
+    let h = sym (turned_low _ _ _ c.loop.f c.loop.parts _ (one_less _ c.loop-test.true) (sym c.is_ready.ensures ∙ c.if-not-is_ready.false) (sym c.in_default-answer_at.ensures)) ∙ c.loop.invariant.1 in
     (c.land_low.ensures ∙ rw c.together.ensures (ap (λ (g : Flown). g.flight) h), ap (λ (g : Flown). g.out) h)
 
 -- ---- on, and the plain way
