@@ -4,7 +4,7 @@
 #![tactic(auto)]
 
 ghost use Rattle.std.specs.Prelude.{◌≡◌, ℕ, Float};
-ghost use Rattle.tables.specs.Tables.{a_at, b_at, ten_rows, row_of};
+ghost use Rattle.tables.specs.Tables.{a_at, b_at, row_of, row_in};
 ghost use Rattle.tables.specs.Outside.{IsNoughtOutside, a_outside, b_outside};
 
 mod a_rows;
@@ -38,14 +38,21 @@ static B_ROWS: [[f64; 9]; 10] = [
     b_rows::B9,
 ];
 
-// One of the two tables: its coefficients by definition, and its ten rows, which are all of it that is stored.
+// One of the two tables: its coefficients by definition, and its rows by their numbers. The ten that are stored are handed out no other way.
 pub trait Table {
     ghost at: { ℕ → ℕ → Float };
 
-    fn rows() -> &'static [[f64; 9]; 10]
-        ensures { result.now ≡ ten_rows at };
+    fn row(i: usize) -> [f64; 9]
+        ensures { result ≡ row_of at i };
 
     ghost is_nought_outside: { IsNoughtOutside at };
+}
+
+// Row i of ten, and zeros from row 10 on.
+fn row_in(rows: &[[f64; 9]; 10], i: usize) -> [f64; 9]
+    ensures { result ≡ row_in rows.now i }
+{
+    rows.get(i).copied().unwrap_or(OUTSIDE)
 }
 
 // Table A, by which the accelerations go into the position.
@@ -59,8 +66,8 @@ impl Table for A {
 
     ghost is_nought_outside = { a_outside };
 
-    fn rows() -> &'static [[f64; 9]; 10] {
-        &A_ROWS
+    fn row(i: usize) -> [f64; 9] {
+        row_in(&A_ROWS, i)
     }
 }
 
@@ -69,8 +76,8 @@ impl Table for B {
 
     ghost is_nought_outside = { b_outside };
 
-    fn rows() -> &'static [[f64; 9]; 10] {
-        &B_ROWS
+    fn row(i: usize) -> [f64; 9] {
+        row_in(&B_ROWS, i)
     }
 }
 
@@ -78,7 +85,7 @@ impl Table for B {
 pub fn row<T: Table>(i: usize) -> [f64; 9]
     ensures { result ≡ row_of T.at i }
 {
-    T::rows().get(i).copied().unwrap_or(OUTSIDE)
+    T::row(i)
 }
 
 // The coefficient in row i and column k of a table.

@@ -3,4 +3,3 @@ pub mod Finite
 pub mod Zeros
 pub mod Signs
 pub mod Sizes
-pub mod Library

@@ -147,19 +147,21 @@ impl Point {
 }
 
 // The absolute value; of -0.0 it is 0.0, as in the Rust.
-#[tactic(auto, using(crate::proofs::Library::absolute_unsigned))]
 pub fn abs(x: f64) -> f64
     ensures { result ≡ absolute x }
 {
-    x.abs()
+    if x == 0.0 {
+        return 0.0;
+    }
+    if x < 0.0 { -x } else { x }
 }
 
-// Neither a NaN nor an infinity.
-#[tactic(auto, using(crate::proofs::Library::finite_alike))]
+// Neither a NaN nor an infinity: these leave a NaN, which differs from itself, where a finite number leaves 0.0.
 pub fn is_finite(x: f64) -> bool
     ensures { result ≡ is_finite x }
 {
-    x.is_finite()
+    let rest = x - x;
+    rest == rest
 }
 
 // a, unless b is greater: a NaN in b is passed over. Not `f64::max`, which passes one in a over too, and so would change the verdicts.
