@@ -42,7 +42,7 @@ impl Replay {
         };
         let mut out = [0.0f64; dense::BETWEEN_NUMBERS];
         let told = dense::interpolate(times[0], self.held(), &mut out);
-        self.tell(told, &out)
+        self.tell(told, 1, &out)
     }
 
     // A row of times. The batch has a rule of its own for intervals, so this is no case of one time.
@@ -51,17 +51,22 @@ impl Replay {
         let Some(n) = words.floats(&mut times) else {
             return self.print_bad();
         };
+        self.tell_times(&times[..n])
+    }
+
+    // In a function of its own: in the one above, this buffer would be cleared twice for each line, and once for a line that is bad.
+    fn tell_times(&mut self, times: &[f64]) -> io::Result<()> {
         let mut out = [0.0f64; ANSWER];
-        let told = dense::interpolate_batch(&times[..n], self.held(), &mut out);
-        self.tell(told, &out[..n * dense::BETWEEN_NUMBERS])
+        let told = dense::interpolate_batch(times, self.held(), &mut out);
+        self.tell(told, times.len(), &out)
     }
 
     // What is told: a line for each time, or the refusal.
-    fn tell(&mut self, told: Result<(), Refusal>, out: &[f64]) -> io::Result<()> {
+    fn tell(&mut self, told: Result<(), Refusal>, times: usize, out: &[f64]) -> io::Result<()> {
         if let Err(e) = told {
             return text::print_refused(&mut self.to, e);
         }
-        for numbers in out.chunks_exact(dense::BETWEEN_NUMBERS) {
+        for numbers in out.chunks_exact(dense::BETWEEN_NUMBERS).take(times) {
             text::print_between(&mut self.to, numbers)?;
         }
         Ok(())
