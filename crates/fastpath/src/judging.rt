@@ -68,7 +68,8 @@ pub fn look_again(n: u8, count: Count, state: State) -> Look
     }
 }
 
-// The open step is made, and the next one is open, if one follows; else the answer goes the plain way, and is told all the same. The counts have room, as in gauss_jackson's `advance`.
+// The open step is made, and the next one is open, if one follows; else the answer goes the plain way, and where the step ends is told all
+// the same. The counts have room, as in gauss_jackson's `advance`.
 #[tactic(auto, unfolding(crate::specs::Looking::looked_on))]
 pub fn look_on(plan: Plan, count: Count, track: Track, state: State, from: u64, room: usize) -> Look
     requires { track.steps < ample }
