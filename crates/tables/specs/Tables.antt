@@ -52,5 +52,5 @@ ten_rows at =
     nine (at 0) ∷ nine (at 1) ∷ nine (at 2) ∷ nine (at 3) ∷ nine (at 4) ∷ nine (at 5) ∷ nine (at 6) ∷ nine (at 7) ∷ nine (at 8) ∷ nine (at 9) ∷ []
 
 -- row i of ten, and zeros from row 10 on
-abbrev pub row_in : List (List Float) → ℕ → List Float
+unfoldable pub row_in : List (List Float) → ℕ → List Float
 row_in rows i = get_or rows i (nine (λ k. nought))

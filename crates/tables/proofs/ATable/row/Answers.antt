@@ -8,5 +8,5 @@ use Rattle.tables.proofs.Same.{a_rows_were}
 use Rattle.tables.proofs.ATable.row.Goals as goal
 
 pub returns : goal.returns
-unfolding row_of entry a_bits
+unfolding row_of row_in entry a_bits
 returns c = c.row_in.ensures ∙ (ap (λ rows. row_in rows c.args.i) a_rows_were ∙ ten_at a_at a_outside.below c.args.i)

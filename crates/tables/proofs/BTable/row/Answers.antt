@@ -8,5 +8,5 @@ use Rattle.tables.proofs.Same.{b_rows_were}
 use Rattle.tables.proofs.BTable.row.Goals as goal
 
 pub returns : goal.returns
-unfolding row_of entry b_bits
+unfolding row_of row_in entry b_bits
 returns c = c.row_in.ensures ∙ (ap (λ rows. row_in rows c.args.i) b_rows_were ∙ ten_at b_at b_outside.below c.args.i)
